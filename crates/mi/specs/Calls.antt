@@ -1,0 +1,182 @@
+-- Document 01, "Numbers 1 to 16": the refusals 1 to 7, and the four calls, for every input: a fresh desk, a step, a run, a level request.
+-- Assumes nothing.
+use Prim.Native.Nat.{ℕ, zero, suc, _+_, _%_}
+use mathlib.Core.Bool.{Bool, true, false, not, _&&_}
+use mathlib.Core.List.{List, [], _∷_}
+use lib.Dec.{ltb, leb, eqb}
+use lib.ListN.{length, replicate, set}
+use Rattle.mi.specs.declared.VirtualAddress.{VirtualAddress}
+use Rattle.mi.specs.declared.RealAddress.{RealAddress}
+use Rattle.mi.specs.declared.Mark.the-variants.{Running, Stopped}
+use Rattle.mi.specs.declared.Desk.{Desk}
+use Rattle.mi.specs.declared.Refusal.{Refusal}
+use Rattle.mi.specs.declared.Refusal.the-variants as refusal
+use Rattle.mi.specs.declared.Answer.{Answer}
+use Rattle.mi.specs.declared.Answer.the-variants.{Accepted, Refused}
+use Rattle.mi.specs.declared.StepAnswer.{StepAnswer}
+use Rattle.mi.specs.declared.StepAnswer.the-variants as stepAnswer
+use Rattle.mi.specs.declared.Reply.{Reply}
+use Rattle.mi.specs.declared.StepReply.{StepReply}
+use Rattle.mi.specs.declared.RunReply.{RunReply}
+use Rattle.mi.specs.Words.{pick, Memory}
+use Rattle.mi.specs.State.{allowedLength, validStatus, isPending, withLevel, systemBlockBytes, controlBlockBytes, blockFits, mapFits, isRunning, deskWith}
+use Rattle.mi.specs.Map.{RealWrites, commit}
+use Rattle.mi.specs.Steps.{Event, quiet, entered, stopped, Outcome, oneStep}
+
+-- ---- Numbers 1 to 7
+
+abbrev pub refusalNumber : Refusal → ℕ
+refusalNumber refusal.MemoryLength = 1
+refusalNumber refusal.SystemBlock = 2
+refusalNumber refusal.ControlBlock = 3
+refusalNumber refusal.Map = 4
+refusalNumber refusal.Status = 5
+refusalNumber refusal.Level = 6
+refusalNumber refusal.Stopped = 7
+
+-- 0 for none
+abbrev pub answerNumber : Answer → ℕ
+answerNumber Accepted = 0
+answerNumber (Refused k) = refusalNumber k
+
+-- what each number asks, here that it has nothing to refuse; n is the memory's length
+
+abbrev pub holds1 : ℕ → Bool
+holds1 n = allowedLength n
+
+abbrev pub holds2 : RealAddress → ℕ → Bool
+holds2 system n = blockFits system systemBlockBytes n
+
+abbrev pub holds3 : RealAddress → ℕ → Bool
+holds3 control n = blockFits control controlBlockBytes n
+
+abbrev pub holds4 : Desk → ℕ → Bool
+holds4 d n = mapFits (d .base) (d .entries) n
+
+unfoldable pub holds5 : Desk → Bool
+holds5 d = validStatus (d .status) && not (isPending (d .pending) 0)
+
+unfoldable pub holds6 : ℕ → Bool
+holds6 level = leb 1 level && leb level 15
+
+-- "Refusals 1 to 7 are tried in number order": the first of a list whose test does not hold
+unfoldable pub firstRefused : List (Bool × Refusal) → Answer
+firstRefused [] = Accepted
+firstRefused (t ∷ ts) = pick (t .0) (firstRefused ts) (Refused (t .1))
+
+-- ---- A fresh desk: "zero registers but a given R15, kernel mode, level 0, no map"; it "checks 1 to 3"
+
+unfoldable pub freshAnswer : ℕ → RealAddress → RealAddress → Answer
+freshAnswer n system control = firstRefused
+    ((holds1 n, refusal.MemoryLength) ∷ (holds2 system n, refusal.SystemBlock) ∷ (holds3 control n, refusal.ControlBlock) ∷ [])
+
+unfoldable pub freshDesk : RealAddress → RealAddress → VirtualAddress → Desk
+freshDesk system control start = record {
+  registers = set (replicate 16 0) 15 (start .0);
+  status = 0x8000_0000;
+  pending = 0;
+  base = record { 0 = 0 };
+  entries = 0;
+  system = system;
+  control = control;
+  mark = Running;
+}
+
+-- "refusing, returns an all-zero desk stopped with that number"
+unfoldable pub zeroDesk : ℕ → Desk
+zeroDesk k = record {
+  registers = replicate 16 0;
+  status = 0;
+  pending = 0;
+  base = record { 0 = 0 };
+  entries = 0;
+  system = record { 0 = 0 };
+  control = record { 0 = 0 };
+  mark = Stopped k;
+}
+
+unfoldable pub freshReply : Answer → Desk → Reply
+freshReply Accepted d = record { answer = Accepted; desk = d }
+freshReply (Refused k) d = record { answer = Refused k; desk = zeroDesk (refusalNumber k) }
+
+unfoldable pub freshOf : ℕ → RealAddress → RealAddress → VirtualAddress → Reply
+freshOf n system control start = freshReply (freshAnswer n system control) (freshDesk system control start)
+
+-- ---- A step: refused, or one step. "Refusals return the state handed in and change no memory"
+
+unfoldable pub stepAnswerOf : Desk → ℕ → Answer
+stepAnswerOf d n = firstRefused
+    ((holds1 n, refusal.MemoryLength)
+    ∷ (holds2 (d .system) n, refusal.SystemBlock)
+    ∷ (holds3 (d .control) n, refusal.ControlBlock)
+    ∷ (holds4 d n, refusal.Map)
+    ∷ (holds5 d, refusal.Status)
+    ∷ (isRunning (d .mark), refusal.Stopped)
+    ∷ [])
+
+unfoldable pub unchanged : Desk → Outcome
+unchanged d = record { desk = d; event = quiet; writes = [] }
+
+unfoldable pub unlessRefused : Answer → Desk → Outcome → Outcome
+unlessRefused Accepted d o = o
+unlessRefused (Refused k) d o = unchanged d
+
+unfoldable pub stepOf : Desk → Memory → Outcome
+stepOf d m = unlessRefused (stepAnswerOf d (length m)) d (oneStep d m)
+
+-- the answer in the code's terms
+abbrev pub eventAnswer : Event → StepAnswer
+eventAnswer quiet = stepAnswer.Done
+eventAnswer (entered i saved) = stepAnswer.Entered i
+eventAnswer (stopped n) = stepAnswer.Stopped n
+
+abbrev pub stepAnswered : Answer → Event → StepAnswer
+stepAnswered Accepted e = eventAnswer e
+stepAnswered (Refused k) e = stepAnswer.Refused k
+
+-- a reply with the memory that it leaves
+pub record Stepped : Type 0 where
+  pub reply : StepReply
+  pub memory : Memory
+
+unfoldable pub steppedOf : Desk → Memory → Stepped
+steppedOf d m = record {
+  reply = record { answer = stepAnswered (stepAnswerOf d (length m)) ((stepOf d m) .event); desk = (stepOf d m) .desk };
+  memory = commit ((stepOf d m) .writes) m;
+}
+
+-- ---- A level request: it "tries only 5 and 6; otherwise it sets that bit, on a stopped desk too"
+
+unfoldable pub requestAnswer : Desk → ℕ → Answer
+requestAnswer d level = firstRefused ((holds5 d, refusal.Status) ∷ (holds6 level, refusal.Level) ∷ [])
+
+unfoldable pub requestOf : Desk → ℕ → Outcome
+requestOf d level = unlessRefused (requestAnswer d level) d (record {
+  desk = deskWith d (d .registers) (d .status) (withLevel (d .pending) level) (d .mark);
+  event = quiet;
+  writes = [];
+})
+
+unfoldable pub requestedOf : Desk → ℕ → Reply
+requestedOf d level = record { answer = requestAnswer d level; desk = (requestOf d level) .desk }
+
+-- ---- A run: "those steps, one after another, up to n or a stop"; it "answers with its step count, entries and stopping steps included, 0 when refused"
+
+pub record Ran : Type 0 where
+  pub reply : RunReply
+  pub memory : Memory
+
+abbrev pub ran : Answer → ℕ → Desk → Memory → Ran
+ran a k d m = record { reply = record { answer = a; steps = k; desk = d }; memory = m }
+
+-- n steps more, after k
+unfoldable pub stepsOf : ℕ → ℕ → Desk → Memory → Ran
+stepsOf zero k d m = ran Accepted k d m
+stepsOf (suc n) k d m = pick (isRunning (d .mark)) (stepsOf n (suc k) ((stepOf d m) .desk) (commit ((stepOf d m) .writes) m)) (ran Accepted k d m)
+
+unfoldable pub runUnless : Answer → Desk → Memory → Ran → Ran
+runUnless Accepted d m o = o
+runUnless (Refused k) d m o = ran (Refused k) 0 d m
+
+unfoldable pub runOf : ℕ → Desk → Memory → Ran
+runOf n d m = runUnless (stepAnswerOf d (length m)) d m (stepsOf n 0 d m)

@@ -1,0 +1,162 @@
+-- Document 01, "One step": what one command does, from what it sees. "byte, mode, then each operand left to right .., the stack bytes read, from SP
+-- upward, the operation, the bytes written". A command sees memory through a view alone, the memory from its start. Assumes nothing.
+use Prim.Native.Nat.{ℕ, zero, suc, _+_, _-_, _*_, _/_, _%_, _^_}
+use mathlib.Core.Bool.{Bool, true, false, not, _&&_, _||_}
+use mathlib.Core.List.{List, [], _∷_, _++_}
+use mathlib.Core.Option.{Option, none, some}
+use lib.ListN.{getD, set}
+use Rattle.mi.specs.declared.Access.the-variants.{Fetch, Read}
+use Rattle.mi.specs.Words.{pick, lengthOf, span, bytesOf, raised, lowered}
+use Rattle.mi.specs.State.{Registers, reg, flagN, flagZ, flagV, flagC}
+use Rattle.mi.specs.Map.{Tried, got, alarm, _>>=_, View, readBytes, VirtualWrites, writesFrom}
+use Rattle.mi.specs.Code.{Condition, JUMP, JEQ, JNE, JGT, JGE, JLT, JLE, JV, JC, Common, result, CMP, PUSHR, POPR, jump, CALL, RET, UserOnly, systemCall, KernelOnly, HALT, RESUME, Command, common, userOnly, kernelOnly, Known, known}
+use Rattle.mi.specs.Operands.{virtual, past, Target, toRegister, toMemory, Operands, operandsOf}
+use Rattle.mi.specs.Integers.{Result, operate, compared}
+
+-- ---- What a command comes to
+
+-- new registers and flags, and the bytes to write
+pub record Done : Type 0 where
+  pub registers : Registers
+  pub flags : ℕ
+  pub writes : VirtualWrites
+
+-- ---- Results
+
+-- "B and H in a register are its low end; a write keeps the rest"
+unfoldable pub keptRest : ℕ → ℕ → ℕ → ℕ
+keptRest L old x = old / span L * span L + x
+
+-- a result of L bytes goes to its target; without one nothing is written
+unfoldable pub stored : ℕ → Result → Option Target → Registers → Done
+stored L x none r = record { registers = r; flags = x .flags; writes = [] }
+stored L x (some (toRegister i)) r = record { registers = set r i (keptRest L (reg r i) (x .value)); flags = x .flags; writes = [] }
+stored L x (some (toMemory a)) r = record { registers = r; flags = x .flags; writes = writesFrom (a .0) (bytesOf L (x .value)) }
+
+-- ---- The stack
+
+-- document 000, 2.5.1, PUSHR: "for i := 14 downto 0 do SP := SP - 4; S[SP] := Ri", here for the i below n; ws is what the turns before write, upward
+unfoldable pub pushed : ℕ → Registers → VirtualWrites → ℕ → Done
+pushed zero r ws f = record { registers = r; flags = f; writes = ws }
+pushed (suc i) r ws f =
+    let q = set r 14 (lowered (reg r 14) 4) in
+    pushed i q (writesFrom (reg q 14) (bytesOf 4 (reg q i)) ++ ws) f
+
+-- POPR: "for i := 0 to 14 do Ri := S[SP]; SP := SP + 4", here n turns from i on
+unfoldable pub popped : View → ℕ → ℕ → Registers → Tried Registers
+popped v zero i r = got r
+popped v (suc n) i r = do
+  w ← readBytes v Read 4 (virtual (reg r 14))
+  popped v n (suc i) (set (set r i w) 14 (raised (reg (set r i w) 14) 4))
+
+-- "CALL lowers SP by 4, stores the next address there and jumps"
+unfoldable pub called : ℕ → Registers → ℕ → Done
+called a r f =
+    let sp = lowered (reg r 14) 4 in
+    record { registers = set (set r 14 sp) 15 a; flags = f; writes = writesFrom sp (bytesOf 4 (reg r 15)) }
+
+-- "RET reverses it"
+unfoldable pub returned : ℕ → Registers → ℕ → Done
+returned w r f = record { registers = set (set r 15 w) 14 (raised (reg r 14) 4); flags = f; writes = [] }
+
+-- ---- Jumps
+
+unfoldable pub holds : Condition → ℕ → Bool
+holds JUMP f = true
+holds JEQ f = flagZ f
+holds JNE f = not (flagZ f)
+holds JGT f = not (flagN f || flagZ f)
+holds JGE f = not (flagN f)
+holds JLT f = flagN f
+holds JLE f = flagN f || flagZ f
+holds JV f = flagV f
+holds JC f = flagC f
+
+-- ---- Commands that both modes allow, with flags f before and operands o
+
+abbrev pub first : Operands → ℕ
+first o = getD (o .taken .numbers) 0 0
+
+abbrev pub second : Operands → ℕ
+second o = getD (o .taken .numbers) 1 0
+
+unfoldable pub commonDone : Common → View → ℕ → Operands → Tried Done
+commonDone (result op s) v f o = do
+  x ← operate op (lengthOf s) (first o) (second o)
+  got (stored (lengthOf s) x (o .taken .target) (o .registers))
+commonDone (CMP s) v f o = got (record { registers = o .registers; flags = compared (lengthOf s) (first o) (second o); writes = [] })
+commonDone PUSHR v f o = got (pushed 15 (o .registers) [] f)
+commonDone POPR v f o = do
+  r ← popped v 15 0 (o .registers)
+  got (record { registers = r; flags = f; writes = [] })
+commonDone (jump c) v f o = got (record { registers = pick (holds c f) (set (o .registers) 15 (first o)) (o .registers); flags = f; writes = [] })
+commonDone CALL v f o = got (called (first o) (o .registers) f)
+commonDone RET v f o = do
+  w ← readBytes v Read 4 (virtual (reg (o .registers) 14))
+  got (returned w (o .registers) f)
+
+-- ---- The command at R15
+
+-- 12: "the command byte is unknown"; its argument is the command byte
+unfoldable pub knownOr12 : ℕ → Option Known → Tried Known
+knownOr12 b none = alarm 12 b
+knownOr12 b (some k) = got k
+
+-- a command that a mode allows: one of both modes, or one of its own, S
+pub data Allowed (S : Type 0) : Type 0 where
+  both : Common → Allowed S
+  only : S → Allowed S
+
+-- 13: "HALT or RESUME in user mode, or a system call in kernel mode"; its argument is the command byte
+unfoldable pub inUserMode : ℕ → Command → Tried (Allowed UserOnly)
+inUserMode b (common c) = got (both c)
+inUserMode b (userOnly s) = got (only s)
+inUserMode b (kernelOnly s) = alarm 13 b
+
+unfoldable pub inKernelMode : ℕ → Command → Tried (Allowed KernelOnly)
+inKernelMode b (common c) = got (both c)
+inKernelMode b (userOnly s) = alarm 13 b
+inKernelMode b (kernelOnly s) = got (only s)
+
+-- what it comes to: it is done, or does what only this mode's commands do, E
+pub data Act (E : Type 0) : Type 0 where
+  done : Done → Act E
+  does : E → Act E
+
+unfoldable pub actOf : {S E : Type 0} → (S → Operands → E) → Allowed S → View → ℕ → Operands → Tried (Act E)
+actOf effect (both c) v f o = do
+  d ← commonDone c v f o
+  got (done d)
+actOf effect (only s) v f o = got (does (effect s o))
+
+-- the order inside a command
+unfoldable pub commandBy : {S E : Type 0} → (ℕ → Command → Tried (Allowed S)) → (S → Operands → E) → View → Registers → ℕ → Tried (Act E)
+commandBy mode effect v r f = do
+  b ← readBytes v Fetch 1 (virtual (reg r 15))
+  k ← knownOr12 b (known b)
+  c ← mode b (k .command)
+  o ← operandsOf v (k .operands) (past 1 r)
+  actOf effect c v f o
+
+-- a system call: its argument, and the registers to save
+pub record SystemCall : Type 0 where
+  pub argument : ℕ
+  pub registers : Registers
+
+unfoldable pub userEffect : UserOnly → Operands → SystemCall
+userEffect systemCall o = record { argument = first o; registers = o .registers }
+
+unfoldable pub userCommand : View → Registers → ℕ → Tried (Act SystemCall)
+userCommand v r f = commandBy inUserMode userEffect v r f
+
+-- HALT ends with R15 past it; RESUME names a control block
+pub data KernelEffect : Type 0 where
+  halts : Registers → KernelEffect
+  resumes : ℕ → KernelEffect
+
+unfoldable pub kernelEffect : KernelOnly → Operands → KernelEffect
+kernelEffect HALT o = halts (o .registers)
+kernelEffect RESUME o = resumes (first o)
+
+unfoldable pub kernelCommand : View → Registers → ℕ → Tried (Act KernelEffect)
+kernelCommand v r f = commandBy inKernelMode kernelEffect v r f

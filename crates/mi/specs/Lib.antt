@@ -1,0 +1,10 @@
+pub mod Words
+pub mod State
+pub mod Map
+pub mod Code
+pub mod Operands
+pub mod Integers
+pub mod Commands
+pub mod Steps
+pub mod Calls
+pub mod Isolation

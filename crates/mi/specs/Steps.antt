@@ -1,0 +1,126 @@
+-- Document 01, "One step": the interrupt that is due, what becomes of a command in user mode and in kernel mode, kernel entry, RESUME, stops.
+-- Assumes nothing.
+use Prim.Native.Nat.{ℕ, zero, suc, _+_, _-_, _*_}
+use mathlib.Core.Bool.{Bool, true, false, not, _&&_}
+use mathlib.Core.List.{List, []}
+use lib.Dec.{ltb, leb, eqb}
+use lib.ListN.{length, set}
+use Rattle.mi.specs.declared.RealAddress.{RealAddress}
+use Rattle.mi.specs.declared.Mark.the-variants.{Running, Stopped}
+use Rattle.mi.specs.declared.Desk.{Desk}
+use Rattle.mi.specs.Words.{pick, Memory, wordAt, wordsAt}
+use Rattle.mi.specs.State.{Registers, userMode, levelOf, flagsOf, withFlags, validUserStatus, validKernelStatus, isPending, withoutLevel, systemBlockOf, entryR15, entryStatus, controlBlockBytes, savedBytes, blockFits, mapFits, deskWith}
+use Rattle.mi.specs.Map.{Tried, got, alarm, View, viewOf, RealWrites, realWritesFrom, located}
+use Rattle.mi.specs.Commands.{Done, Act, done, does, SystemCall, userCommand, KernelEffect, halts, resumes, kernelCommand}
+
+-- ---- What a step shows
+
+-- nothing but the state it leaves; a kernel entry with its cause and saved bytes; a stop with its number
+pub data Event : Type 0 where
+  quiet : Event
+  entered : ℕ → List ℕ → Event
+  stopped : ℕ → Event
+
+pub record Outcome : Type 0 where
+  pub desk : Desk
+  pub event : Event
+  pub writes : RealWrites
+
+-- ---- Stops
+
+-- "stops the desk with its number and all else as before the command"
+unfoldable pub stop : ℕ → Desk → Outcome
+stop n d = record { desk = deskWith d (d .registers) (d .status) (d .pending) (Stopped n); event = stopped n; writes = [] }
+
+-- "HALT stops with 0, R15 past it"
+unfoldable pub halt : Registers → Desk → Outcome
+halt r d = record { desk = deskWith d r (d .status) (d .pending) (Stopped 0); event = stopped 0; writes = [] }
+
+-- the registers, the status and the memory change, nothing else
+unfoldable pub goOn : Registers → ℕ → RealWrites → Desk → Outcome
+goOn r s ws d = record { desk = deskWith d r s (d .pending) (d .mark); event = quiet; writes = ws }
+
+-- ---- User mode: what a step comes to, from registers r, status s, pending set p and view v alone
+
+pub data Course : Type 0 where
+  -- new registers and status, and real writes
+  goesOn : Registers → ℕ → RealWrites → Course
+  -- a kernel entry: cause, registers to save, argument, the pending set left
+  enters : ℕ → Registers → ℕ → ℕ → Course
+
+-- the highest level from k down that is pending and above l; 0 for none
+unfoldable pub due : ℕ → ℕ → ℕ → ℕ
+due zero p l = 0
+due (suc k) p l = pick (isPending p (suc k) && ltb l (suc k)) (suc k) (due k p l)
+
+-- "An alarm undoes the command's register changes and writes nothing": it saves the registers r from the command's start
+unfoldable pub written : Registers → ℕ → ℕ → Done → Tried RealWrites → Course
+written r s p d (got ws) = goesOn (d .registers) (withFlags s (d .flags)) ws
+written r s p d (alarm n x) = enters n r x p
+
+-- cause "1 for a system call (argument its value, saved R15 the next command)", "the alarm number otherwise (saved R15 the command's own address)"
+unfoldable pub ofCommand : Registers → ℕ → ℕ → View → Tried (Act SystemCall) → Course
+ofCommand r s p v (got (done d)) = written r s p d (located v (d .writes))
+ofCommand r s p v (got (does c)) = enters 1 (c .registers) (c .argument) p
+ofCommand r s p v (alarm n x) = enters n r x p
+
+-- "the highest pending level above the status level is entered and its pending bit cleared": cause "16 + level", "argument the level"
+unfoldable pub interrupted : ℕ → Registers → ℕ → Course → Course
+interrupted zero r p otherwise = otherwise
+interrupted (suc k) r p otherwise = enters (16 + suc k) r (suc k) (withoutLevel p (suc k))
+
+unfoldable pub userCourse : Registers → ℕ → ℕ → View → Course
+userCourse r s p v = interrupted (due 15 p (levelOf s)) r p (ofCommand r s p v (userCommand v r (flagsOf s)))
+
+-- ---- Kernel entry
+
+-- cause i, registers r to save, argument x, pending set p left, new R15 and new status; 16: "the system block's entry holds no valid kernel status"
+unfoldable pub enterIf : Bool → Desk → ℕ → Registers → ℕ → ℕ → ℕ → ℕ → Outcome
+enterIf false d i r x p new s = stop 16 d
+enterIf true d i r x p new s = record {
+  desk = deskWith d (set r 15 new) s p (d .mark);
+  event = entered i (savedBytes r (d .status) x);
+  writes = realWritesFrom (d .control .0) (savedBytes r (d .status) x);
+}
+
+unfoldable pub concluded : Desk → Memory → Course → Outcome
+concluded d block (goesOn r s ws) = goOn r s ws d
+concluded d block (enters i r x p) = enterIf (validKernelStatus (entryStatus block i)) d i r x p (entryR15 block i) (entryStatus block i)
+
+unfoldable pub userStep : Desk → View → Memory → Outcome
+userStep d v block = concluded d block (userCourse (d .registers) (d .status) (d .pending) v)
+
+-- ---- Kernel mode: "an alarm stops the desk with its number"
+
+-- RESUME of the block at address a, which is real: "RESUME's block that breaks 3 or 4 or its status isn't a valid user status" is alarm 14;
+-- else it "loads R0 to R15, status, map base and map length from the control block at its address, which becomes the control block"
+unfoldable pub resume : Desk → Memory → RealAddress → Outcome
+resume d m a =
+    let s = wordAt m (a .0 + 64) in
+    let base : RealAddress = record { 0 = wordAt m (a .0 + 72) } in
+    let entries = wordAt m (a .0 + 76) in
+    pick (blockFits a controlBlockBytes (length m) && mapFits base entries (length m) && validUserStatus s)
+    (record {
+      desk = record { registers = wordsAt 16 m (a .0); status = s; pending = d .pending; base = base; entries = entries; system = d .system; control = a; mark = d .mark };
+      event = quiet;
+      writes = [];
+    })
+    (stop 14 d)
+
+unfoldable pub kernelWritten : Desk → Done → Tried RealWrites → Outcome
+kernelWritten d c (got ws) = goOn (c .registers) (withFlags (d .status) (c .flags)) ws d
+kernelWritten d c (alarm n x) = stop n d
+
+unfoldable pub ofKernelCommand : Desk → Memory → View → Tried (Act KernelEffect) → Outcome
+ofKernelCommand d m v (got (done c)) = kernelWritten d c (located v (c .writes))
+ofKernelCommand d m v (got (does (halts r))) = halt r d
+ofKernelCommand d m v (got (does (resumes a))) = resume d m (record { 0 = a })
+ofKernelCommand d m v (alarm n x) = stop n d
+
+unfoldable pub kernelStep : Desk → View → Memory → Outcome
+kernelStep d v m = ofKernelCommand d m v (kernelCommand v (d .registers) (flagsOf (d .status)))
+
+-- ---- One step of a desk that is not refused
+
+unfoldable pub oneStep : Desk → Memory → Outcome
+oneStep d m = pick (userMode (d .status)) (userStep d (viewOf d m) (systemBlockOf d m)) (kernelStep d (viewOf d m) m)
