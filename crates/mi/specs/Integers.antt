@@ -18,13 +18,17 @@ use Rattle.mi.specs.Code.{Operation, MOVE, CLEAR, MOVEN, MOVEC, MOVEA, C
 abbrev pub half : ℕ → ℕ
 half L = span L / 2
 
--- the highest bit, b0
-unfoldable pub negative : ℕ → ℕ → Bool
-negative L x = leb (half L) x
+-- 1.1.1: the natural number of the last L bytes of x
+abbrev pub natural : ℕ → ℕ → ℕ
+natural L x = x % span L
 
--- 1.1.2: the natural number of 1.1.1, less 256 ^ L where b0 is set
+-- its highest bit, b0
+unfoldable pub negative : ℕ → ℕ → Bool
+negative L x = leb (half L) (natural L x)
+
+-- 1.1.2: the natural number, less 256 ^ L where b0 is set
 unfoldable pub signed : ℕ → ℕ → ℤ
-signed L x = pick (negative L x) (subℕ x (span L)) (pos x)
+signed L x = pick (negative L x) (subℕ (natural L x) (span L)) (pos (natural L x))
 
 -- 1.1.2, the range: at least -256 ^ L / 2, at most 256 ^ L / 2 - 1
 unfoldable pub fits : ℕ → ℤ → Bool
@@ -60,7 +64,7 @@ exact L z c = resultOf L (kept L z) (not (fits L z)) c
 -- ---- Operations
 
 unfoldable pub complement : ℕ → ℕ → ℕ
-complement L a = span L - 1 - a
+complement L a = span L - 1 - natural L a
 
 -- C: "unsigned carry"
 unfoldable pub added : ℕ → ℕ → ℕ → Result
