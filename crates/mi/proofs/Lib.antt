@@ -1,3 +1,12 @@
+pub mod Differences
+pub mod Widths
+pub mod Results
+pub mod Bytes
+pub mod Biased
+pub mod Sizes
+pub mod WholeStep
+pub mod TriedValues
+pub mod NearMisses
 pub mod Writes
 pub mod Views
 pub mod UserCalls

@@ -6,12 +6,13 @@ use mathlib.Core.List.{List, [], _∷_, _++_}
 use mathlib.Core.Option.{Option, none, some}
 use lib.ListN.{getD, set}
 use Rattle.mi.specs.declared.Access.the-variants.{Fetch, Read}
+use Rattle.mi.specs.declared.Result.{Result}
 use Rattle.mi.specs.Words.{pick, lengthOf, span, bytesOf, raised, lowered}
 use Rattle.mi.specs.State.{Registers, reg, flagN, flagZ, flagV, flagC}
 use Rattle.mi.specs.Map.{Tried, got, alarm, _>>=_, View, readBytes, VirtualWrites, writesFrom}
 use Rattle.mi.specs.Code.{Condition, JUMP, JEQ, JNE, JGT, JGE, JLT, JLE, JV, JC, Common, result, CMP, PUSHR, POPR, jump, CALL, RET, UserOnly, systemCall, KernelOnly, HALT, RESUME, Command, common, userOnly, kernelOnly, Known, known}
 use Rattle.mi.specs.Operands.{virtual, past, Target, toRegister, toMemory, Operands, operandsOf}
-use Rattle.mi.specs.Integers.{Result, operate, compared}
+use Rattle.mi.specs.Integers.{natural, operate, compared}
 
 -- ---- What a command comes to
 
@@ -74,17 +75,19 @@ holds JC f = flagC f
 
 -- ---- Commands that both modes allow, with flags f before and operands o
 
+-- the first number that the operands gave: S[a1], or the address a1
 abbrev pub first : Operands → ℕ
 first o = getD (o .taken .numbers) 0 0
 
+-- the second, S[a2]
 abbrev pub second : Operands → ℕ
 second o = getD (o .taken .numbers) 1 0
 
 unfoldable pub commonDone : Common → View → ℕ → Operands → Tried Done
 commonDone (result op s) v f o = do
-  x ← operate op (lengthOf s) (first o) (second o)
+  x ← operate op (lengthOf s) (natural (lengthOf s) (first o)) (natural (lengthOf s) (second o))
   got (stored (lengthOf s) x (o .taken .target) (o .registers))
-commonDone (CMP s) v f o = got (record { registers = o .registers; flags = compared (lengthOf s) (first o) (second o); writes = [] })
+commonDone (CMP s) v f o = got (record { registers = o .registers; flags = compared (lengthOf s) (natural (lengthOf s) (first o)) (natural (lengthOf s) (second o)); writes = [] })
 commonDone PUSHR v f o = got (pushed 15 (o .registers) [] f)
 commonDone POPR v f o = do
   r ← popped v 15 0 (o .registers)

@@ -8,6 +8,7 @@ use lib.ListN.{getD}
 use lib.IntN.{ℤ, pos, negsuc, negℤ, natAbs, subℕ, _+ℤ_, _-ℤ_, _*ℤ_}
 use lib.Signed.{leZ, ltZ, nonNeg, quotZ, shrZ}
 use lib.Bits.{bitAnd, bitOr, bitXor}
+use Rattle.mi.specs.declared.Result.{Result}
 use Rattle.mi.specs.Words.{pick, span}
 use Rattle.mi.specs.State.{flags}
 use Rattle.mi.specs.Map.{Tried, got, alarm}
@@ -18,17 +19,17 @@ use Rattle.mi.specs.Code.{Operation, MOVE, CLEAR, MOVEN, MOVEC, MOVEA, C
 abbrev pub half : ℕ → ℕ
 half L = span L / 2
 
--- 1.1.1: the natural number of the last L bytes of x
+-- 1.1.1: the natural number of the last L bytes
 abbrev pub natural : ℕ → ℕ → ℕ
 natural L x = x % span L
 
--- its highest bit, b0
+-- the highest bit, b0, of such a number
 unfoldable pub negative : ℕ → ℕ → Bool
-negative L x = leb (half L) (natural L x)
+negative L x = leb (half L) x
 
 -- 1.1.2: the natural number, less 256 ^ L where b0 is set
 unfoldable pub signed : ℕ → ℕ → ℤ
-signed L x = pick (negative L x) (subℕ (natural L x) (span L)) (pos (natural L x))
+signed L x = pick (negative L x) (subℕ x (span L)) (pos x)
 
 -- 1.1.2, the range: at least -256 ^ L / 2, at most 256 ^ L / 2 - 1
 unfoldable pub fits : ℕ → ℤ → Bool
@@ -45,10 +46,6 @@ kept L z = modulo (span L) z
 
 -- ---- Results with flags
 
-pub record Result : Type 0 where
-  pub value : ℕ
-  pub flags : ℕ
-
 -- "N and Z from the result"
 unfoldable pub resultOf : ℕ → ℕ → Bool → Bool → Result
 resultOf L x v c = record { value = x; flags = flags (negative L x) (eqb x 0) v c }
@@ -64,7 +61,7 @@ exact L z c = resultOf L (kept L z) (not (fits L z)) c
 -- ---- Operations
 
 unfoldable pub complement : ℕ → ℕ → ℕ
-complement L a = span L - 1 - natural L a
+complement L a = span L - 1 - a
 
 -- C: "unsigned carry"
 unfoldable pub added : ℕ → ℕ → ℕ → Result
@@ -104,7 +101,7 @@ operate CLEAR L a b = got (plain L 0)
 operate MOVEN L a b = got (subtracted L a 0)
 operate MOVEC L a b = got (plain L (complement L a))
 operate MOVEA L a b = got (plain L a)
-operate CONV L a b = got (plain L (kept L (signed 1 a)))
+operate CONV L a b = got (plain L (kept L (signed 1 (natural 1 a))))
 operate OR L a b = got (plain L (bitOr b a))
 operate ANDNOT L a b = got (plain L (bitAnd b (complement L a)))
 operate XOR L a b = got (plain L (bitXor b a))

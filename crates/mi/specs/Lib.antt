@@ -8,3 +8,4 @@ pub mod Commands
 pub mod Steps
 pub mod Calls
 pub mod Isolation
+pub mod TriedValues

@@ -36,6 +36,13 @@ pub enum Role {
     Update,
 }
 
+// What an operation gives: a value and the flags that it sets.
+pub struct Result {
+    pub value: u32,
+    pub flags: u32,
+}
+
+// A desk is running, or stopped with a number.
 pub enum Mark {
     Running,
     Stopped(u32),
