@@ -6,12 +6,14 @@ use mathlib.Core.List.{List, [], _∷_, _++_}
 use mathlib.Core.Option.{Option, none, some}
 use lib.ListN.{getD, set}
 use Rattle.mi.specs.declared.Access.the-variants.{Fetch, Read}
+use Rattle.mi.specs.declared.Target.{Target}
+use Rattle.mi.specs.declared.Target.the-variants.{Nowhere, Register, Memory}
 use Rattle.mi.specs.declared.Result.{Result}
 use Rattle.mi.specs.Words.{pick, lengthOf, span, bytesOf, raised, lowered}
 use Rattle.mi.specs.State.{Registers, reg, flagN, flagZ, flagV, flagC}
 use Rattle.mi.specs.Map.{Tried, got, alarm, _>>=_, View, readBytes, VirtualWrites, writesFrom}
 use Rattle.mi.specs.Code.{Condition, JUMP, JEQ, JNE, JGT, JGE, JLT, JLE, JV, JC, Common, result, CMP, PUSHR, POPR, jump, CALL, RET, UserOnly, systemCall, KernelOnly, HALT, RESUME, Command, common, userOnly, kernelOnly, Known, known}
-use Rattle.mi.specs.Operands.{virtual, past, Target, toRegister, toMemory, Operands, operandsOf}
+use Rattle.mi.specs.Operands.{virtual, past, Operands, operandsOf}
 use Rattle.mi.specs.Integers.{natural, operate, compared}
 
 -- ---- What a command comes to
@@ -28,11 +30,11 @@ pub record Done : Type 0 where
 unfoldable pub keptRest : ℕ → ℕ → ℕ → ℕ
 keptRest L old x = old / span L * span L + x
 
--- a result of L bytes goes to its target; without one nothing is written
-unfoldable pub stored : ℕ → Result → Option Target → Registers → Done
-stored L x none r = record { registers = r; flags = x .flags; writes = [] }
-stored L x (some (toRegister i)) r = record { registers = set r i (keptRest L (reg r i) (x .value)); flags = x .flags; writes = [] }
-stored L x (some (toMemory a)) r = record { registers = r; flags = x .flags; writes = writesFrom (a .0) (bytesOf L (x .value)) }
+-- a result of L bytes goes to its target
+unfoldable pub stored : ℕ → Result → Target → Registers → Done
+stored L x Nowhere r = record { registers = r; flags = x .flags; writes = [] }
+stored L x (Register i) r = record { registers = set r i (keptRest L (reg r i) (x .value)); flags = x .flags; writes = [] }
+stored L x (Memory a) r = record { registers = r; flags = x .flags; writes = writesFrom (a .0) (bytesOf L (x .value)) }
 
 -- ---- The stack
 
@@ -75,25 +77,17 @@ holds JC f = flagC f
 
 -- ---- Commands that both modes allow, with flags f before and operands o
 
--- the first number that the operands gave: S[a1], or the address a1
-abbrev pub first : Operands → ℕ
-first o = getD (o .taken .numbers) 0 0
-
--- the second, S[a2]
-abbrev pub second : Operands → ℕ
-second o = getD (o .taken .numbers) 1 0
-
 unfoldable pub commonDone : Common → View → ℕ → Operands → Tried Done
 commonDone (result op s) v f o = do
-  x ← operate op (lengthOf s) (natural (lengthOf s) (first o)) (natural (lengthOf s) (second o))
-  got (stored (lengthOf s) x (o .taken .target) (o .registers))
-commonDone (CMP s) v f o = got (record { registers = o .registers; flags = compared (lengthOf s) (natural (lengthOf s) (first o)) (natural (lengthOf s) (second o)); writes = [] })
+  x ← operate op (lengthOf s) (natural (lengthOf s) (o .first)) (natural (lengthOf s) (o .second))
+  got (stored (lengthOf s) x (o .target) (o .registers))
+commonDone (CMP s) v f o = got (record { registers = o .registers; flags = compared (lengthOf s) (natural (lengthOf s) (o .first)) (natural (lengthOf s) (o .second)); writes = [] })
 commonDone PUSHR v f o = got (pushed 15 (o .registers) [] f)
 commonDone POPR v f o = do
   r ← popped v 15 0 (o .registers)
   got (record { registers = r; flags = f; writes = [] })
-commonDone (jump c) v f o = got (record { registers = pick (holds c f) (set (o .registers) 15 (first o)) (o .registers); flags = f; writes = [] })
-commonDone CALL v f o = got (called (first o) (o .registers) f)
+commonDone (jump c) v f o = got (record { registers = pick (holds c f) (set (o .registers) 15 (o .first)) (o .registers); flags = f; writes = [] })
+commonDone CALL v f o = got (called (o .first) (o .registers) f)
 commonDone RET v f o = do
   w ← readBytes v Read 4 (virtual (reg (o .registers) 14))
   got (returned w (o .registers) f)
@@ -147,7 +141,7 @@ pub record SystemCall : Type 0 where
   pub registers : Registers
 
 unfoldable pub userEffect : UserOnly → Operands → SystemCall
-userEffect systemCall o = record { argument = first o; registers = o .registers }
+userEffect systemCall o = record { argument = o .first; registers = o .registers }
 
 unfoldable pub userCommand : View → Registers → ℕ → Tried (Act SystemCall)
 userCommand v r f = commandBy inUserMode userEffect v r f
@@ -159,7 +153,7 @@ pub data KernelEffect : Type 0 where
 
 unfoldable pub kernelEffect : KernelOnly → Operands → KernelEffect
 kernelEffect HALT o = halts (o .registers)
-kernelEffect RESUME o = resumes (first o)
+kernelEffect RESUME o = resumes (o .first)
 
 unfoldable pub kernelCommand : View → Registers → ℕ → Tried (Act KernelEffect)
 kernelCommand v r f = commandBy inKernelMode kernelEffect v r f

@@ -2,7 +2,6 @@
 use Prim.Native.Nat.{ℕ, zero, suc, _+_, _-_, _*_, _/_, _%_, _^_}
 use mathlib.Core.Bool.{Bool, true, false, not, _&&_}
 use mathlib.Core.List.{List, [], _∷_, _++_}
-use mathlib.Core.Option.{Option, none, some}
 use lib.Dec.{ltb, leb, eqb}
 use lib.ListN.{set}
 use Rattle.mi.specs.declared.VirtualAddress.{VirtualAddress}
@@ -10,6 +9,8 @@ use Rattle.mi.specs.declared.Access.the-variants.{Fetch, Read}
 use Rattle.mi.specs.declared.Size.{Size}
 use Rattle.mi.specs.declared.Role.{Role}
 use Rattle.mi.specs.declared.Role.the-variants.{Value, Address, Destination, Update}
+use Rattle.mi.specs.declared.Target.{Target}
+use Rattle.mi.specs.declared.Target.the-variants.{Nowhere, Register, Memory}
 use Rattle.mi.specs.Words.{pick, lengthOf, span, wrap, raised, lowered}
 use Rattle.mi.specs.State.{Registers, reg}
 use Rattle.mi.specs.Map.{Tried, got, alarm, _>>=_, View, readBytes}
@@ -111,51 +112,60 @@ addressIn place (immediate z) = alarm 14 place
 addressIn place (register x) = alarm 14 place
 addressIn place (memory a) = got (a .0)
 
--- where a result goes
-pub data Target : Type 0 where
-  toRegister : ℕ → Target
-  toMemory : VirtualAddress → Target
-
--- "Form 1 is no destination"
+-- where a result goes: "Form 1 is no destination"
 unfoldable pub targetIn : ℕ → Location → Tried Target
 targetIn place (immediate z) = alarm 14 place
-targetIn place (register x) = got (toRegister x)
-targetIn place (memory a) = got (toMemory a)
+targetIn place (register x) = got (Register x)
+targetIn place (memory a) = got (Memory a)
 
--- values and addresses for the operation, and where its result goes
+-- a value or an address for the operation, 0 where the operand is only written, and where its result goes
 pub record Taken : Type 0 where
-  pub numbers : List ℕ
-  pub target : Option Target
+  pub number : ℕ
+  pub target : Target
+
+abbrev pub taken : ℕ → Target → Tried Taken
+taken n t = got (record { number = n; target = t })
 
 unfoldable pub takenBy : View → ℕ → ℕ → Operand → Role → Tried Taken
 takenBy v place L p Value = do
   n ← valueIn v L (p .registers) (p .location)
-  got (record { numbers = n ∷ []; target = none })
+  taken n Nowhere
 takenBy v place L p Address = do
   a ← addressIn place (p .location)
-  got (record { numbers = a ∷ []; target = none })
+  taken a Nowhere
 takenBy v place L p Destination = do
   t ← targetIn place (p .location)
-  got (record { numbers = []; target = some t })
+  taken 0 t
 takenBy v place L p Update = do
   t ← targetIn place (p .location)
   n ← valueIn v L (p .registers) (p .location)
-  got (record { numbers = n ∷ []; target = some t })
+  taken n t
 
 -- ---- "each operand left to right"
 
--- what all operands give, and the registers after them
+-- what the operands give: the first's and the second's number, where the last one's result goes, and the registers after them
 pub record Operands : Type 0 where
-  pub taken : Taken
+  pub first : ℕ
+  pub second : ℕ
+  pub target : Target
   pub registers : Registers
 
--- from the operand at that place on, after those that gave t; a result goes to the last operand
-unfoldable pub operandsFrom : View → ℕ → List Rule → Taken → Registers → Tried Operands
-operandsFrom v place [] t r = got (record { taken = t; registers = r })
-operandsFrom v place (o ∷ os) t r = do
-  p ← operandAt v place (lengthOf (o .size)) r
-  u ← takenBy v place (lengthOf (o .size)) p (o .role)
-  operandsFrom v (suc place) os (record { numbers = t .numbers ++ u .numbers; target = u .target }) (p .registers)
+-- the operand at that place gave t, after those that gave o
+unfoldable pub withTaken : ℕ → Operands → Taken → Registers → Operands
+withTaken place o t r = record {
+  first = pick (eqb place 1) (t .number) (o .first);
+  second = pick (eqb place 2) (t .number) (o .second);
+  target = t .target;
+  registers = r;
+}
+
+-- from the operand at that place on, after those that gave o
+unfoldable pub operandsFrom : View → ℕ → List Rule → Operands → Tried Operands
+operandsFrom v place [] o = got o
+operandsFrom v place (k ∷ ks) o = do
+  p ← operandAt v place (lengthOf (k .size)) (o .registers)
+  t ← takenBy v place (lengthOf (k .size)) p (k .role)
+  operandsFrom v (suc place) ks (withTaken place o t (p .registers))
 
 abbrev pub operandsOf : View → List Rule → Registers → Tried Operands
-operandsOf v os r = operandsFrom v 1 os (record { numbers = []; target = none }) r
+operandsOf v ks r = operandsFrom v 1 ks (record { first = 0; second = 0; target = Nowhere; registers = r })

@@ -36,6 +36,13 @@ pub enum Role {
     Update,
 }
 
+// Where a command's result goes.
+pub enum Target {
+    Nowhere,
+    Register(u32),
+    Memory(VirtualAddress),
+}
+
 // What an operation gives: a value and the flags that it sets.
 pub struct Result {
     pub value: u32,
