@@ -3,11 +3,12 @@
 use Prim.Native.Nat.{ℕ, zero, suc, _+_, _*_, _/_, _%_, _<_}
 use mathlib.Core.Path.{_≡_, refl, ap, _∙_}
 use mathlib.Core.List.{List, [], _∷_}
-use native.Mathlib.Nat.{mod-one, pow-succ'}
+use native.Mathlib.Nat.{mod-one, mod-lt, pow-succ'}
 use native.Mathlib.Omega.{arith}
 use lib.Arith.{digits-div, digits-mod, mod-mul}
 use lib.ListN.{length, getD}
 use Rattle.mi.specs.Words.{Memory, byteAt, span, bytesOf, wordAt}
+use Rattle.mi.specs.Integers.{natural}
 use Rattle.mi.specs.Commands.{keptRest}
 use Rattle.mi.proofs.Widths.{span-positive}
 
@@ -47,11 +48,11 @@ word-of-bytes x = word-joined (bytesOf 4 x) 0 ∙ bytes-joined 4 0 x ∙ omega a
 
 -- ---- Registers
 
-module _ (L old x : ℕ) (small : x < span L) where
-  pub keptRest-low : keptRest L old x % span L ≡ x
+module _ (L old x : ℕ) where
+  pub keptRest-low : keptRest L old x % span L ≡ natural L x
   unfolding keptRest
-  keptRest-low = digits-mod (old / span L) small
+  keptRest-low = digits-mod (old / span L) (mod-lt x (span-positive L))
 
   pub keptRest-high : keptRest L old x / span L ≡ old / span L
   unfolding keptRest
-  keptRest-high = digits-div (old / span L) small
+  keptRest-high = digits-div (old / span L) (mod-lt x (span-positive L))

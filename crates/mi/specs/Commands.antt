@@ -28,7 +28,7 @@ pub record Done : Type 0 where
 
 -- "B and H in a register are its low end; a write keeps the rest"
 unfoldable pub keptRest : ℕ → ℕ → ℕ → ℕ
-keptRest L old x = old / span L * span L + x
+keptRest L old x = old / span L * span L + natural L x
 
 -- a result of L bytes goes to its target
 unfoldable pub stored : ℕ → Result → Target → Registers → Done
