@@ -12,3 +12,5 @@ pub mod Views
 pub mod UserCalls
 pub mod Near
 pub mod Isolation
+pub mod Premises
+pub mod Shifts

@@ -105,15 +105,15 @@ pub data Allowed (S : Type 0) : Type 0 where
   only : S → Allowed S
 
 -- 13: "HALT or RESUME in user mode, or a system call in kernel mode"; its argument is the command byte
-unfoldable pub inUserMode : ℕ → Command → Tried (Allowed UserOnly)
-inUserMode b (common c) = got (both c)
-inUserMode b (userOnly s) = got (only s)
-inUserMode b (kernelOnly s) = alarm 13 b
+unfoldable pub allowedInUserMode : ℕ → Command → Tried (Allowed UserOnly)
+allowedInUserMode b (common c) = got (both c)
+allowedInUserMode b (userOnly s) = got (only s)
+allowedInUserMode b (kernelOnly s) = alarm 13 b
 
-unfoldable pub inKernelMode : ℕ → Command → Tried (Allowed KernelOnly)
-inKernelMode b (common c) = got (both c)
-inKernelMode b (userOnly s) = alarm 13 b
-inKernelMode b (kernelOnly s) = got (only s)
+unfoldable pub allowedInKernelMode : ℕ → Command → Tried (Allowed KernelOnly)
+allowedInKernelMode b (common c) = got (both c)
+allowedInKernelMode b (userOnly s) = alarm 13 b
+allowedInKernelMode b (kernelOnly s) = got (only s)
 
 -- what it comes to: it is done, or does what only this mode's commands do, E
 pub data Act (E : Type 0) : Type 0 where
@@ -144,7 +144,7 @@ unfoldable pub userEffect : UserOnly → Operands → SystemCall
 userEffect systemCall o = record { argument = o .first; registers = o .registers }
 
 unfoldable pub userCommand : View → Registers → ℕ → Tried (Act SystemCall)
-userCommand v r f = commandBy inUserMode userEffect v r f
+userCommand v r f = commandBy allowedInUserMode userEffect v r f
 
 -- HALT ends with R15 past it; RESUME names a control block
 pub data KernelEffect : Type 0 where
@@ -156,4 +156,4 @@ kernelEffect HALT o = halts (o .registers)
 kernelEffect RESUME o = resumes (o .first)
 
 unfoldable pub kernelCommand : View → Registers → ℕ → Tried (Act KernelEffect)
-kernelCommand v r f = commandBy inKernelMode kernelEffect v r f
+kernelCommand v r f = commandBy allowedInKernelMode kernelEffect v r f

@@ -9,3 +9,4 @@ pub mod Steps
 pub mod Calls
 pub mod Isolation
 pub mod TriedValues
+pub mod Premises
