@@ -4,13 +4,16 @@ pub mod Results
 pub mod Bytes
 pub mod Biased
 pub mod Sizes
+pub mod Shifts
+pub mod Levels
 pub mod WholeStep
 pub mod TriedValues
 pub mod NearMisses
 pub mod Writes
 pub mod Views
+pub mod Pages
+pub mod Blocks
 pub mod UserCalls
 pub mod Near
 pub mod Isolation
 pub mod Premises
-pub mod Shifts

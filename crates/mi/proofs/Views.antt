@@ -102,7 +102,7 @@ block-same d x y l h = ext-getD 0 _ _ (simp (length-take, length-drop, l)) λ i 
 
 -- ---- Writes go to writable reached frames
 
-order-got : (b t s k : Bool) (x : VirtualAddress) (f g : Found) → inNumberOrder b t s k x f ≡ got g → (b ≡ true) × (t ≡ true) × (s ≡ true) × (k ≡ true) × (f ≡ g)
+pub order-got : (b t s k : Bool) (x : VirtualAddress) (f g : Found) → inNumberOrder b t s k x f ≡ got g → (b ≡ true) × (t ≡ true) × (s ≡ true) × (k ≡ true) × (f ≡ g)
 unfolding inNumberOrder
 order-got false t s k x f g h = (cc, cc, cc, cc, cc)
 order-got true false s k x f g h = (cc, cc, cc, cc, cc)

@@ -94,7 +94,7 @@ fits-gap L {z} {a} {b} h =
 pub gap-fits : (L : ℕ) {z : ℤ} {a b : ℕ} → Gap z a b → b ≤ a + half L → a < half L + b → fits L z ≡ true
 gap-fits L {z} {a} {b} h low high = fits-gap L h ∙ rw (le-leb b (a + half L) low, lt-ltb a (half L + b) high)
 
-and-true : (s t : Bool) → (s && t) ≡ true → (s ≡ true) × (t ≡ true)
+pub and-true : (s t : Bool) → (s && t) ≡ true → (s ≡ true) × (t ≡ true)
 and-true true true e = (refl, refl)
 and-true true false e = (refl, e)
 and-true false t e = absurd (let z : _≡_ {A = ℕ} 0 1 = cc in omega arith)

@@ -1,0 +1,38 @@
+-- The pending set: the level that is due, one level down at a time, and that a level fits beside the others. Assumes nothing.
+use Prim.Native.Nat.{ℕ, zero, suc, _+_, _-_, _*_, _/_, _%_, _^_, _<_}
+use mathlib.Core.Path.{_≡_, ap, _∙_}
+use mathlib.Core.Bool.{true, false, _&&_, and-false}
+use native.Mathlib.Nat.{div-lt-iff-lt-mul, add-div-right}
+use native.Mathlib.Omega.{arith}
+use borrow.Author.Tests.{eq-eqb, ne-eqb}
+use lib.Dec.{ltb}
+use lib.Pow.{pow-pos, pow-add}
+use Rattle.mi.specs.Words.{pick}
+use Rattle.mi.specs.State.{isPending}
+use Rattle.mi.specs.Steps.{due}
+
+due-step : (k p l : ℕ) → 0 < k → due k p l ≡ pick (isPending p k && ltb l k) k (due (k - 1) p l)
+unfolding due
+due-step zero p l h = absurd (omega arith)
+due-step (suc k) p l h = let e : suc k - 1 ≡ k = omega arith in rw e
+
+module _ (k p l : ℕ) (some : 0 < k) where
+  pub due-here : p / 2 ^ k % 2 ≡ 1 → ltb l k ≡ true → due k p l ≡ k
+  unfolding isPending
+  due-here set above = due-step k p l some ∙ simp (eq-eqb _ _ set, above)
+
+  pub due-free : (p / 2 ^ k % 2 ≡ 1 → ⊥) → due k p l ≡ due (k - 1) p l
+  unfolding isPending
+  due-free free = due-step k p l some ∙ simp (ne-eqb _ _ free)
+
+  pub due-held : ltb l k ≡ false → due k p l ≡ due (k - 1) p l
+  due-held low = due-step k p l some ∙ simp (low, and-false)
+
+-- where level k is not pending, p / 2 ^ k is even, so adding the level carries nothing over
+pub level-fits : (n k p : ℕ) → k < n → p < 2 ^ n → (p / 2 ^ k % 2 ≡ 1 → ⊥) → p + 2 ^ k < 2 ^ n
+level-fits n k p h small free =
+    let j = n - (k + 1) in
+    let size : 2 ^ n ≡ 2 * 2 ^ j * 2 ^ k = let e : n ≡ 1 + j + k = omega arith in ap (λ (i : ℕ). 2 ^ i) e ∙ simp (pow-add 2 (1 + j) k, pow-add 2 1 j) in
+    let below : p / 2 ^ k < 2 * 2 ^ j = div-lt-iff-lt-mul (pow-pos k) .1 (rw size at small) in
+    let room : (p + 2 ^ k) / 2 ^ k < 2 * 2 ^ j = rw (add-div-right p (pow-pos k)) (omega arith) in
+    rw size (div-lt-iff-lt-mul (pow-pos k) .0 room)
