@@ -4,7 +4,8 @@ use Prim.Native.Nat.{ℕ, zero, suc, _+_, _-_, _*_, _/_, _%_, _^_}
 use mathlib.Core.Bool.{Bool, true, false, not, _&&_, _||_}
 use mathlib.Core.List.{List, [], _∷_, _++_}
 use mathlib.Core.Option.{Option, none, some}
-use lib.ListN.{getD, set}
+use lib.Dec.{eqb}
+use lib.ListN.{set}
 use Rattle.mi.specs.declared.Access.the-variants.{Fetch, Read}
 use Rattle.mi.specs.declared.Target.{Target}
 use Rattle.mi.specs.declared.Target.the-variants.{Nowhere, Register, Memory}
@@ -38,12 +39,13 @@ stored L x (Memory a) r = record { registers = r; flags = x .flags; writes = wri
 
 -- ---- The stack
 
--- document 000, 2.5.1, PUSHR: "for i := 14 downto 0 do SP := SP - 4; S[SP] := Ri", here for the i below n; ws is what the turns before write, upward
-unfoldable pub pushed : ℕ → Registers → VirtualWrites → ℕ → Done
-pushed zero r ws f = record { registers = r; flags = f; writes = ws }
-pushed (suc i) r ws f =
-    let q = set r 14 (lowered (reg r 14) 4) in
-    pushed i q (writesFrom (reg q 14) (bytesOf 4 (reg q i)) ++ ws) f
+-- document 000, 2.5.1, PUSHR: "for i := 14 downto 0 do SP := SP - 4; S[SP] := Ri", here the turns that are left, for i - 1 downto 0. sp is SP, which is R14;
+-- ws is what the turns before write, upward
+unfoldable pub pushed : ℕ → ℕ → Registers → VirtualWrites → ℕ → Done
+pushed zero sp r ws f = record { registers = set r 14 sp; flags = f; writes = ws }
+pushed (suc i) sp r ws f =
+    let low = lowered sp 4 in
+    pushed i low r (writesFrom low (bytesOf 4 (pick (eqb i 14) low (reg r i))) ++ ws) f
 
 -- POPR: "for i := 0 to 14 do Ri := S[SP]; SP := SP + 4", here n turns from i on
 unfoldable pub popped : View → ℕ → ℕ → Registers → Tried Registers
@@ -82,7 +84,7 @@ commonDone (result op s) v f o = do
   x ← operate op (lengthOf s) (natural (lengthOf s) (o .first)) (natural (lengthOf s) (o .second))
   got (stored (lengthOf s) x (o .target) (o .registers))
 commonDone (CMP s) v f o = got (record { registers = o .registers; flags = compared (lengthOf s) (natural (lengthOf s) (o .first)) (natural (lengthOf s) (o .second)); writes = [] })
-commonDone PUSHR v f o = got (pushed 15 (o .registers) [] f)
+commonDone PUSHR v f o = got (pushed 15 (reg (o .registers) 14) (o .registers) [] f)
 commonDone POPR v f o = do
   r ← popped v 15 0 (o .registers)
   got (record { registers = r; flags = f; writes = [] })
