@@ -22,6 +22,7 @@ commit-append (x ∷ xs) ys a m =
     let e : suc a + length xs ≡ a + suc (length xs) = omega arith in
     rw (← e) (commit-append xs ys (suc a) _)
 
+-- a word goes to four places
 pub commit-word : (w a : ℕ) (m : Memory) → commit (realWritesFrom a (bytesOf 4 w)) m
     ≡ set (set (set (set m a (w / 0x100_0000 % 256)) (a + 1) (w / 0x1_0000 % 256)) (a + 2) (w / 0x100 % 256)) (a + 3) (w % 256)
 unfolding commit realWritesFrom bytesOf
@@ -31,6 +32,7 @@ commit-word w a m =
     let fourth : a + 3 ≡ suc (suc (suc a)) = omega arith in
     rw (second, third, fourth, div-one)
 
+-- the first word, then the others
 commit-words : (w : ℕ) (ws : List ℕ) (a : ℕ) (m : Memory)
     → commit (realWritesFrom a (bytesOfWords (w ∷ ws))) m ≡ commit (realWritesFrom (a + 4) (bytesOfWords ws)) (commit (realWritesFrom a (bytesOf 4 w)) m)
 unfolding bytesOfWords

@@ -13,6 +13,7 @@ pub mod Writes
 pub mod Views
 pub mod Pages
 pub mod Blocks
+pub mod Refusals
 pub mod UserCalls
 pub mod Near
 pub mod Isolation

@@ -1,13 +1,13 @@
 -- What the lookup of a first byte tells of the bytes after it: its alarm is theirs, and a byte that is found has the rest of its page beside it, so that
 -- writes of any number of bytes in one page go to one place. In kernel mode this rests on a memory of whole frames. Assumes nothing.
-use Prim.Native.Nat.{ℕ, zero, suc, _+_, _-_, _*_, _/_, _%_, _≤_, _<_}
+use Prim.Native.Nat.{ℕ, zero, suc, _+_, _-_, _/_, _%_, _≤_, _<_}
 use mathlib.Core.Path.{_≡_, refl, ap}
 use mathlib.Core.Bool.{Bool, true, false}
 use mathlib.Core.List.{List, [], _∷_}
 use native.Mathlib.Omega.{arith}
 use native.Mathlib.Nat.{add-zero}
 use borrow.Author.Tests.{ltb-true, leb-true, lt-ltb}
-use lib.Dec.{ltb, leb, eqb}
+use lib.Dec.{ltb, eqb}
 use lib.ListN.{length}
 use Rattle.mi.specs.declared.RealAddress.{RealAddress}
 use Rattle.mi.specs.declared.VirtualAddress.{VirtualAddress}
@@ -15,22 +15,27 @@ use Rattle.mi.specs.declared.Access.{Access}
 use Rattle.mi.specs.declared.Access.the-variants.{Write}
 use Rattle.mi.specs.Words.{pick, Memory, wrap}
 use Rattle.mi.specs.State.{frameStart, userMode}
-use Rattle.mi.specs.Map.{Tried, got, alarm, pageOf, mapEntry, present, forbiddenBits, frameOf, undamaged, Found, foundAt, inFrame, allows, inNumberOrder, View, mapped, unmapped, realOf, viewBy, readFrom, writesFrom, realWritesFrom, located}
+use Rattle.mi.specs.Map.{got, alarm, pageOf, mapEntry, present, forbiddenBits, frameOf, undamaged, Found, foundAt, inFrame, allows, inNumberOrder, View, mapped, unmapped, realOf, viewBy, readFrom, writesFrom, realWritesFrom, located}
 use Rattle.mi.proofs.Widths.{and-true}
 use Rattle.mi.proofs.Views.{order-got}
 
 -- ---- An alarm
 
-module _ (v : View) (x : VirtualAddress) (small : x .0 < 0x1_0000_0000) (n z : ℕ) where
-  pub read-alarm : (w : Access) (L acc : ℕ) → 0 < L → v x w ≡ alarm n z → readFrom v w L (x .0) acc ≡ alarm n z
-  unfolding readFrom
-  read-alarm w zero acc p h = absurd (omega arith)
-  read-alarm w (suc L) acc p h = let e : wrap (x .0) ≡ x .0 = omega arith in rw (e, h)
+-- the lookup of address x ends in alarm n
+pub record Alarms (s : ℕ) (base : RealAddress) (entries : ℕ) (m : Memory) (x : VirtualAddress) (w : Access) (n : ℕ) : Type 0 where
+  pub small : x .0 < 0x1_0000_0000
+  pub miss : viewBy s base entries m x w ≡ alarm n (x .0)
 
-  pub located-alarm : (bs : List ℕ) → 0 < length bs → v x Write ≡ alarm n z → located v (writesFrom (x .0) bs) ≡ alarm n z
+module _ {s : ℕ} {base : RealAddress} {entries : ℕ} {m : Memory} {x : VirtualAddress} {n : ℕ} where
+  pub read-alarm : {w : Access} → Alarms s base entries m x w n → (L acc : ℕ) → 0 < L → readFrom (viewBy s base entries m) w L (x .0) acc ≡ alarm n (x .0)
+  unfolding readFrom
+  read-alarm f zero acc p = absurd (omega arith)
+  read-alarm f (suc L) acc p = let e : wrap (x .0) ≡ x .0 = omega arith in rw (e, f .miss)
+
+  pub located-alarm : Alarms s base entries m x Write n → (bs : List ℕ) → 0 < length bs → located (viewBy s base entries m) (writesFrom (x .0) bs) ≡ alarm n (x .0)
   unfolding located writesFrom
-  located-alarm [] p h = absurd (omega arith)
-  located-alarm (b ∷ bs) p h = let e : wrap (x .0) ≡ x .0 = omega arith in rw (e, h)
+  located-alarm f [] p = absurd (omega arith)
+  located-alarm f (b ∷ bs) p = let e : wrap (x .0) ≡ x .0 = omega arith in rw (e, f .miss)
 
 -- ---- A byte that is found, in either mode
 
@@ -85,42 +90,44 @@ by-mode s base entries m P f g = go (userMode s)
     go true = f
     go false = g
 
-module _ (s : ℕ) (base : RealAddress) (entries : ℕ) (m : Memory) (x : VirtualAddress) (w : Access) (a : RealAddress) where
-  pub found-inside : viewBy s base entries m x w ≡ got (foundAt m a) → a .0 < length m
-  found-inside =
-      by-mode s base entries m (λ v. v x w ≡ got (foundAt m a) → a .0 < length m)
-      (mapped-inside m x w a base entries)
-      (λ h. omega (arith, unmapped-inside m x w a h .0, unmapped-inside m x w a h .1))
+pub found-inside : (s : ℕ) (base : RealAddress) (entries : ℕ) (m : Memory) (x : VirtualAddress) (w : Access) (a : RealAddress) → viewBy s base entries m x w ≡ got (foundAt m a) → a .0 < length m
+found-inside s base entries m x w a =
+    by-mode s base entries m (λ v. v x w ≡ got (foundAt m a) → a .0 < length m)
+    (mapped-inside m x w a base entries)
+    (λ h. omega (arith, unmapped-inside m x w a h .0, unmapped-inside m x w a h .1))
 
-  module _ (whole : length m % 512 ≡ 0) (hit : viewBy s base entries m x w ≡ got (foundAt m a)) where
-    -- the byte that lies k further on in the page
-    pub found-page : (k : ℕ) → x .0 % 512 + k < 512 → viewBy s base entries m (record { 0 = x .0 + k }) w ≡ got (foundAt m (record { 0 = a .0 + k }))
-    found-page k l =
-        by-mode s base entries m (λ v. v x w ≡ got (foundAt m a) → v (record { 0 = x .0 + k }) w ≡ got (foundAt m (record { 0 = a .0 + k })))
-        (λ h. mapped-page m x w a base entries h k l)
-        (λ h. unmapped-page m x w a h whole k l)
-        hit
+-- ---- The rest of its page
 
-    pub found-wrapped : x .0 < 0x1_0000_0000 → (k : ℕ) → x .0 % 512 + k < 512 → viewBy s base entries m (record { 0 = wrap (x .0 + k) }) w ≡ got (foundAt m (record { 0 = a .0 + k }))
-    found-wrapped small k l = let e : wrap (x .0 + k) ≡ x .0 + k = omega arith in rw e (found-page k l)
+-- the lookup of address x finds place a, in a memory of whole frames
+pub record Finds (s : ℕ) (base : RealAddress) (entries : ℕ) (m : Memory) (x : VirtualAddress) (w : Access) (a : RealAddress) : Type 0 where
+  pub small : x .0 < 0x1_0000_0000
+  pub whole : length m % 512 ≡ 0
+  pub hit : viewBy s base entries m x w ≡ got (foundAt m a)
 
--- the rest of the page lies in the memory
-pub page-inside : (s : ℕ) (base : RealAddress) (entries : ℕ) (m : Memory) (x : VirtualAddress) (w : Access) (a : RealAddress) → length m % 512 ≡ 0 → viewBy s base entries m x w ≡ got (foundAt m a)
-    → (n : ℕ) → 0 < n → x .0 % 512 + n ≤ 512 → a .0 + n ≤ length m
-page-inside s base entries m x w a whole hit n p l =
-    let i = found-inside s base entries m (record { 0 = x .0 + (n - 1) }) w (record { 0 = a .0 + (n - 1) }) (found-page s base entries m x w a whole hit (n - 1) (omega arith)) in
-    omega arith
+module _ {s : ℕ} {base : RealAddress} {entries : ℕ} {m : Memory} {x : VirtualAddress} {w : Access} {a : RealAddress} (f : Finds s base entries m x w a) where
+  -- k bytes further on
+  found-onward : (k : ℕ) → x .0 % 512 + k < 512 → viewBy s base entries m (record { 0 = x .0 + k }) w ≡ got (foundAt m (record { 0 = a .0 + k }))
+  found-onward k l =
+      by-mode s base entries m (λ v. v x w ≡ got (foundAt m a) → v (record { 0 = x .0 + k }) w ≡ got (foundAt m (record { 0 = a .0 + k })))
+      (λ h. mapped-page m x w a base entries h k l)
+      (λ h. unmapped-page m x w a h (f .whole) k l)
+      (f .hit)
 
--- ---- Writes in one page
+  pub found-page : (k : ℕ) → x .0 % 512 + k < 512 → viewBy s base entries m (record { 0 = wrap (x .0 + k) }) w ≡ got (foundAt m (record { 0 = a .0 + k }))
+  found-page k l = let e : wrap (x .0 + k) ≡ x .0 + k = omega arith in rw e (found-onward k l)
 
-module _ (s : ℕ) (base : RealAddress) (entries : ℕ) (m : Memory) (x : VirtualAddress) (a : RealAddress) (whole : length m % 512 ≡ 0) (small : x .0 < 0x1_0000_0000) (hit : viewBy s base entries m x Write ≡ got (foundAt m a)) where
+  pub page-inside : (n : ℕ) → 0 < n → x .0 % 512 + n ≤ 512 → a .0 + n ≤ length m
+  page-inside n p l = let i = found-inside s base entries m (record { 0 = x .0 + (n - 1) }) w (record { 0 = a .0 + (n - 1) }) (found-onward (n - 1) (omega arith)) in omega arith
+
+-- writes in one page
+module _ {s : ℕ} {base : RealAddress} {entries : ℕ} {m : Memory} {x : VirtualAddress} {a : RealAddress} (f : Finds s base entries m x Write a) where
   located-from : (bs : List ℕ) (k : ℕ) → x .0 % 512 + k + length bs ≤ 512 → located (viewBy s base entries m) (writesFrom (x .0 + k) bs) ≡ got (realWritesFrom (a .0 + k) bs)
   unfolding located writesFrom realWritesFrom
   located-from [] k l = refl
   located-from (b ∷ bs) k l =
       let p : x .0 + k + 1 ≡ x .0 + suc k = omega arith in
       let q : suc (a .0 + k) ≡ a .0 + suc k = omega arith in
-      rw (found-wrapped s base entries m x Write a whole hit small k (omega arith), p, q, located-from bs (suc k) (omega arith))
+      rw (found-page f k (omega arith), p, q, located-from bs (suc k) (omega arith))
 
   pub located-page : (bs : List ℕ) → x .0 % 512 + length bs ≤ 512 → located (viewBy s base entries m) (writesFrom (x .0) bs) ≡ got (realWritesFrom (a .0) bs)
   located-page bs l = rw (add-zero (x .0), add-zero (a .0)) at (located-from bs 0 (omega arith))
