@@ -1,9 +1,9 @@
 -- Document 01, "Numbers 1 to 16": the refusals 1 to 7, and the four calls, for every input: a fresh desk, a step, a run, a level request.
 -- Assumes nothing.
-use Prim.Native.Nat.{ℕ, zero, suc, _+_, _%_}
-use mathlib.Core.Bool.{Bool, true, false, not, _&&_}
+use Prim.Native.Nat.{ℕ, zero, suc}
+use mathlib.Core.Bool.{Bool, not, _&&_}
 use mathlib.Core.List.{List, [], _∷_}
-use lib.Dec.{ltb, leb, eqb}
+use lib.Dec.{leb}
 use lib.ListN.{length, replicate, set}
 use Rattle.mi.specs.declared.VirtualAddress.{VirtualAddress}
 use Rattle.mi.specs.declared.RealAddress.{RealAddress}
@@ -20,7 +20,7 @@ use Rattle.mi.specs.declared.StepReply.{StepReply}
 use Rattle.mi.specs.declared.RunReply.{RunReply}
 use Rattle.mi.specs.Words.{pick, Memory}
 use Rattle.mi.specs.State.{allowedLength, validStatus, isPending, withLevel, systemBlockBytes, controlBlockBytes, blockFits, mapFits, isRunning, deskWith}
-use Rattle.mi.specs.Map.{RealWrites, commit}
+use Rattle.mi.specs.Map.{commit}
 use Rattle.mi.specs.Steps.{Event, quiet, entered, stopped, Outcome, oneStep}
 
 -- ---- Numbers 1 to 7
@@ -134,6 +134,13 @@ abbrev pub stepAnswered : Answer → Event → StepAnswer
 stepAnswered Accepted e = eventAnswer e
 stepAnswered (Refused k) e = stepAnswer.Refused k
 
+-- the paper's number of a step's answer: a refusal's, 0 for a command done, a cause, a stop's number
+abbrev pub stepAnswerNumber : StepAnswer → ℕ
+stepAnswerNumber (stepAnswer.Refused k) = refusalNumber k
+stepAnswerNumber stepAnswer.Done = 0
+stepAnswerNumber (stepAnswer.Entered i) = i
+stepAnswerNumber (stepAnswer.Stopped n) = n
+
 -- a reply with the memory that it leaves
 pub record Stepped : Type 0 where
   pub reply : StepReply
@@ -169,7 +176,7 @@ pub record Ran : Type 0 where
 abbrev pub ran : Answer → ℕ → Desk → Memory → Ran
 ran a k d m = record { reply = record { answer = a; steps = k; desk = d }; memory = m }
 
--- n steps more, after k
+-- n steps more, after k. A step of a desk that was not refused is not refused either while the desk runs
 unfoldable pub stepsOf : ℕ → ℕ → Desk → Memory → Ran
 stepsOf zero k d m = ran Accepted k d m
 stepsOf (suc n) k d m = pick (isRunning (d .mark)) (stepsOf n (suc k) ((stepOf d m) .desk) (commit ((stepOf d m) .writes) m)) (ran Accepted k d m)

@@ -1,8 +1,8 @@
 -- Document 01, "One step": what one command does, from what it sees. "byte, mode, then each operand left to right .., the stack bytes read, from SP
 -- upward, the operation, the bytes written". A command sees memory through a view alone, the memory from its start. Assumes nothing.
-use Prim.Native.Nat.{ℕ, zero, suc, _+_, _-_, _*_, _/_, _%_, _^_}
-use mathlib.Core.Bool.{Bool, true, false, not, _&&_, _||_}
-use mathlib.Core.List.{List, [], _∷_, _++_}
+use Prim.Native.Nat.{ℕ, zero, suc, _+_, _*_, _/_}
+use mathlib.Core.Bool.{Bool, true, not, _||_}
+use mathlib.Core.List.{[], _∷_, _++_}
 use mathlib.Core.Option.{Option, none, some}
 use lib.Dec.{eqb}
 use lib.ListN.{set}
@@ -31,7 +31,7 @@ pub record Done : Type 0 where
 unfoldable pub keptRest : ℕ → ℕ → ℕ → ℕ
 keptRest L old x = old / span L * span L + natural L x
 
--- a result of L bytes goes to its target
+-- a result of L bytes goes to its target; every command that gives a result has one
 unfoldable pub stored : ℕ → Result → Target → Registers → Done
 stored L x Nowhere r = record { registers = r; flags = x .flags; writes = [] }
 stored L x (Register i) r = record { registers = set r i (keptRest L (reg r i) (x .value)); flags = x .flags; writes = [] }

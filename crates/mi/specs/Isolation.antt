@@ -1,8 +1,8 @@
 -- Demand 3 of the mission, with the last paragraph of document 01's "One step": a single claim about a list of steps and level requests, given alike to
 -- two desks in user mode that are equal except in memory. No validity of state or memory is assumed. The words "reached", "writable reached" and "the map's
 -- bytes" are those of Map.antt, and mean the map as it is before the first call. Assumes nothing.
-use Prim.Native.Nat.{ℕ, zero, suc, _+_, _*_, _/_, _≤_, _<_}
-use mathlib.Core.Bool.{Bool, true, false}
+use Prim.Native.Nat.{ℕ, suc, _+_, _≤_, _<_}
+use mathlib.Core.Bool.{true}
 use mathlib.Core.Path.{_≡_}
 use mathlib.Core.List.{List, [], _∷_}
 use mathlib.Core.Option.{Option, none, some}
@@ -44,7 +44,7 @@ eventOf c d m = (outcomeOf c d m) .event
 
 -- ---- The premises
 
--- the byte at place a belongs to the system block
+-- the byte at place a belongs to the system block; past the memory both read 0
 pub record InSystemBlock (d : Desk) (a : ℕ) : Type 0 where
   pub low : d .system .0 ≤ a
   pub high : a < d .system .0 + systemBlockBytes

@@ -2,8 +2,8 @@
 -- Assumes nothing.
 use Prim.Native.Nat.{ℕ, zero, suc, _+_, _-_, _*_, _/_, _%_, _≤_, _<_}
 use mathlib.Core.Path.{_≡_}
-use mathlib.Core.Bool.{Bool, true, false, not, _&&_}
-use mathlib.Core.List.{List, [], _∷_, _++_}
+use mathlib.Core.Bool.{Bool, true, false, _&&_}
+use mathlib.Core.List.{List, [], _∷_}
 use lib.Dec.{ltb, leb, eqb}
 use lib.ListN.{length, set}
 use Rattle.mi.specs.declared.VirtualAddress.{VirtualAddress}
@@ -53,7 +53,7 @@ forbiddenBits e = e / 0x100_0000 % 0x40
 unfoldable pub frameOf : ℕ → FrameNumber
 frameOf e = record { 0 = e % 0x100_0000 }
 
--- "An entry is damaged when 10 would refuse it": here of a present entry, in a memory of n bytes, that it is not
+-- "An entry is damaged when 10 would refuse it": a present entry e, in a memory of n bytes, is not
 unfoldable pub undamaged : ℕ → ℕ → Bool
 undamaged n e = eqb (forbiddenBits e) 0 && leb (frameStart (frameOf e) + 512) n
 
@@ -77,7 +77,8 @@ allows Fetch e = true
 allows Read e = true
 allows Write e = writable e
 
--- "For one byte 8 to 11 are tried in number order"; their argument is "the byte's address"
+-- "For one byte 8 to 11 are tried in number order"; their argument is "the byte's address". The tests: the page is below the map length, the entry present,
+-- undamaged, and open to the access
 unfoldable pub inNumberOrder : Bool → Bool → Bool → Bool → VirtualAddress → Found → Tried Found
 inNumberOrder false there whole allowed x f = alarm 8 (x .0)
 inNumberOrder true false whole allowed x f = alarm 9 (x .0)
@@ -171,8 +172,9 @@ pub record WritableReached (base : RealAddress) (entries : ℕ) (m : Memory) (f 
   pub names : Names base entries m page f
   pub write : writable (mapEntry base m page) ≡ true
 
--- the byte at place a belongs to the map: "from map base up to, but not including, map base + 4 × map length"; "bytes past the memory .. count for nothing"
+-- the byte at place a belongs to the map: "from map base up to, but not including, map base + 4 × map length"; "bytes past the memory, and entries not wholly
+-- inside it, count for nothing", so the entry that the byte is part of lies inside
 pub record InMap (base : RealAddress) (entries : ℕ) (m : Memory) (a : ℕ) : Type 0 where
   pub low : base .0 ≤ a
   pub high : a < base .0 + 4 * entries
-  pub inside : a < length m
+  pub inside : base .0 + 4 * ((a - base .0) / 4) + 4 ≤ length m

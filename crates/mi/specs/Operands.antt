@@ -1,12 +1,11 @@
 -- Document 01, "Code": the nine forms of an operand, their rules, and what an operand gives a command. Assumes nothing.
-use Prim.Native.Nat.{ℕ, zero, suc, _+_, _-_, _*_, _/_, _%_, _^_}
+use Prim.Native.Nat.{ℕ, suc, _+_, _*_, _/_, _%_}
 use mathlib.Core.Bool.{Bool, true, false, not, _&&_}
-use mathlib.Core.List.{List, [], _∷_, _++_}
+use mathlib.Core.List.{List, [], _∷_}
 use lib.Dec.{ltb, leb, eqb}
 use lib.ListN.{set}
 use Rattle.mi.specs.declared.VirtualAddress.{VirtualAddress}
 use Rattle.mi.specs.declared.Access.the-variants.{Fetch, Read}
-use Rattle.mi.specs.declared.Size.{Size}
 use Rattle.mi.specs.declared.Role.{Role}
 use Rattle.mi.specs.declared.Role.the-variants.{Value, Address, Destination, Update}
 use Rattle.mi.specs.declared.Target.{Target}
@@ -86,6 +85,7 @@ byForm v L r k =
     (pick (eqb (k .form) 5) (wordBehind v (k .z + rx) >>= (λ w. at (memory (virtual w)) r))
     (pick (eqb (k .form) 6) (wordBehind v (k .z + rx) >>= (λ w. at (memory (virtual (w + ry * L))) r))
     (pick (eqb (k .form) 7) (at (memory (virtual (lowered rx L))) (set r (k .x) (lowered rx L)))
+    -- 8
     (at (memory (virtual rx)) (set r (k .x) (raised rx L))))))))))
 
 -- R15 moved past n more bytes of the command

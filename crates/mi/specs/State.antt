@@ -4,13 +4,13 @@ use Prim.Native.Nat.{ℕ, zero, suc, _+_, _-_, _*_, _/_, _%_, _^_}
 use mathlib.Core.Bool.{Bool, true, false, not, _&&_}
 use mathlib.Core.List.{List, [], _∷_, _++_}
 use lib.Dec.{ltb, leb, eqb}
-use lib.ListN.{getD, take, drop, replicate}
+use lib.ListN.{getD, take, drop}
 use Rattle.mi.specs.declared.RealAddress.{RealAddress}
 use Rattle.mi.specs.declared.FrameNumber.{FrameNumber}
 use Rattle.mi.specs.declared.Mark.{Mark}
 use Rattle.mi.specs.declared.Mark.the-variants.{Running, Stopped}
 use Rattle.mi.specs.declared.Desk.{Desk}
-use Rattle.mi.specs.Words.{pick, Memory, byteAt, wordAt, bytesOfWords}
+use Rattle.mi.specs.Words.{pick, Memory, wordAt, bytesOfWords}
 
 -- ---- Memory and frames
 
@@ -111,7 +111,7 @@ entryStatus block i = wordAt block (8 * i + 4)
 abbrev pub controlBlockBytes : ℕ
 controlBlockBytes = 80
 
--- k registers from Ri on
+-- k registers from Ri on; a list that lacks one counts as 0 there
 unfoldable pub registersFrom : ℕ → ℕ → Registers → List ℕ
 registersFrom zero i r = []
 registersFrom (suc k) i r = reg r i ∷ registersFrom k (suc i) r

@@ -1,12 +1,13 @@
 -- Document 01, "One step": the interrupt that is due, what becomes of a command in user mode and in kernel mode, kernel entry, RESUME, stops.
--- Assumes nothing.
-use Prim.Native.Nat.{ℕ, zero, suc, _+_, _-_, _*_}
-use mathlib.Core.Bool.{Bool, true, false, not, _&&_}
+-- A command comes to an `Act` (Commands.antt); a step in user mode takes a `Course` from it, without the system block; a step's `Outcome` is the state that
+-- it leaves, an `Event`, and the bytes that it writes. Assumes nothing.
+use Prim.Native.Nat.{ℕ, zero, suc, _+_}
+use mathlib.Core.Bool.{Bool, true, false, _&&_}
 use mathlib.Core.List.{List, []}
-use lib.Dec.{ltb, leb, eqb}
+use lib.Dec.{ltb}
 use lib.ListN.{length, set}
 use Rattle.mi.specs.declared.RealAddress.{RealAddress}
-use Rattle.mi.specs.declared.Mark.the-variants.{Running, Stopped}
+use Rattle.mi.specs.declared.Mark.the-variants.{Stopped}
 use Rattle.mi.specs.declared.Desk.{Desk}
 use Rattle.mi.specs.Words.{pick, Memory, wordAt, wordsAt}
 use Rattle.mi.specs.State.{Registers, userMode, levelOf, flagsOf, withFlags, validUserStatus, validKernelStatus, isPending, withoutLevel, systemBlockOf, entryR15, entryStatus, controlBlockBytes, savedBytes, blockFits, mapFits, deskWith}
@@ -15,7 +16,7 @@ use Rattle.mi.specs.Commands.{Done, Act, done, does, SystemCall, userCom
 
 -- ---- What a step shows
 
--- nothing but the state it leaves; a kernel entry with its cause and saved bytes; a stop with its number
+-- nothing but the state it leaves, as a refused call and a level request too; a kernel entry with its cause and saved bytes; a stop with its number
 pub data Event : Type 0 where
   quiet : Event
   entered : ℕ → List ℕ → Event
@@ -92,7 +93,8 @@ userStep d v block = concluded d block (userCourse (d .registers) (d .status) (d
 
 -- ---- Kernel mode: "an alarm stops the desk with its number"
 
--- RESUME of the block at address a, which is real: "RESUME's block that breaks 3 or 4 or its status isn't a valid user status" is alarm 14;
+-- RESUME of the block at address a, which is real: 14 where "RESUME's block breaks 3 or 4 or its status isn't a valid user status"; "A block that doesn't fit
+-- is alarm 14, never 8";
 -- else it "loads R0 to R15, status, map base and map length from the control block at its address, which becomes the control block"
 unfoldable pub resume : Desk → Memory → RealAddress → Outcome
 resume d m a =

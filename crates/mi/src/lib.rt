@@ -1,7 +1,7 @@
-// The MI desk's types. What they mean is defined in specs/, document 01 in its own order.
+// The MI desk's types. What they mean is defined in specs/, in document 01's order.
 ghost use mathlib.Core.Path.{_≡_};
 ghost use Rattle.mi.specs.Words.{lengthOf};
-ghost use Rattle.mi.specs.Calls.{refusalNumber, answerNumber};
+ghost use Rattle.mi.specs.Calls.{refusalNumber, answerNumber, stepAnswerNumber};
 
 // Three kinds of number that must not stand for one another.
 
@@ -151,6 +151,20 @@ impl Answer {
         match self {
             Answer::Accepted => 0,
             Answer::Refused(k) => k.number(),
+        }
+    }
+}
+
+impl StepAnswer {
+    // The number of its refusal, its cause or its stop; 0 for a command done.
+    pub fn number(self) -> u32
+        ensures { λ r. ⌜ r ≡ stepAnswerNumber self ⌝ }
+    {
+        match self {
+            StepAnswer::Refused(k) => k.number(),
+            StepAnswer::Done => 0,
+            StepAnswer::Entered(cause) => cause,
+            StepAnswer::Stopped(n) => n,
         }
     }
 }
