@@ -1,0 +1,210 @@
+//! Counts what the stored cases reach. Runs are taken apart into their steps.
+
+use crate::case::{make, Call, Case};
+use crate::entry;
+use crate::fault::{Note, Part, Probe};
+use crate::state::*;
+use std::collections::BTreeMap;
+
+pub type Counts<K> = BTreeMap<K, u32>;
+
+/// Outcome of a command besides alarms 8 to 15.
+pub const FINE: u32 = 0;
+
+#[derive(Default)]
+pub struct Cover {
+    /// Command byte (256: it couldn't be fetched), kernel mode, outcome.
+    pub commands: Counts<(u16, bool, u32)>,
+    /// Form, role, L, kernel mode, for operands that keep the rules.
+    pub forms: Counts<(u8, u8, u32, bool)>,
+    /// Broken rule, role, L, kernel mode.
+    pub rules: Counts<(&'static str, u8, u32, bool)>,
+    /// Form and whether x (true) or y (false) is 15.
+    pub r15: Counts<(u8, bool)>,
+    /// Number, part, kernel mode.
+    pub alarms: Counts<(u32, Part, bool)>,
+    pub crossings: Counts<Part>,
+    pub entries: Counts<u32>,
+    pub bad_entries: Counts<(u32, &'static str)>,
+    pub stops: Counts<u32>,
+    /// Number, kind of call, reason.
+    pub refusals: Counts<(u32, &'static str, &'static str)>,
+    /// Command byte and flags after it.
+    pub flags: Counts<(u8, u32)>,
+    /// Jump, flags, taken.
+    pub jumps: Counts<(u8, u32, bool)>,
+    /// Command byte that keeps flags, flags.
+    pub kept: Counts<(u8, u32)>,
+    pub resumes: Counts<&'static str>,
+    /// Level and what became of it.
+    pub levels: Counts<(u32, &'static str)>,
+    pub runs: Counts<&'static str>,
+    pub requests: Counts<(u32, &'static str)>,
+}
+
+fn add<K: Ord>(counts: &mut Counts<K>, key: K) {
+    *counts.entry(key).or_insert(0) += 1;
+}
+
+fn kind(call: &Call) -> &'static str {
+    match call {
+        Call::Step => "step",
+        Call::Run(_) => "run",
+        Call::Request(_) => "request",
+        Call::Fresh { .. } => "fresh",
+    }
+}
+
+impl Cover {
+    /// Takes the notes of one call that was refused.
+    fn refused(&mut self, notes: &[Note], call: &Call) {
+        for note in notes {
+            if let Note::Refused { number, reason } = note {
+                add(&mut self.refusals, (*number, kind(call), reason));
+            }
+        }
+    }
+
+    /// One step that wasn't refused.
+    fn step(&mut self, before: &State, after: &State, event: &Event, notes: &[Note]) {
+        let kernel = before.kernel();
+        let interrupted = entry::interrupt(&Probe::right(), before);
+        for level in 1..16 {
+            if before.pending >> level & 1 == 1 {
+                let fate = if kernel {
+                    "waits in kernel mode"
+                } else if interrupted == Some(level) && *event == Event::Stop(16) {
+                    "stop 16"
+                } else if interrupted == Some(level) {
+                    "entered"
+                } else if level == before.level() {
+                    "equal to the status level"
+                } else if level < before.level() {
+                    "below the status level"
+                } else {
+                    "waits for a higher one"
+                };
+                add(&mut self.levels, (level, fate));
+            }
+        }
+        match event {
+            Event::Entry { cause, .. } => add(&mut self.entries, *cause),
+            Event::Stop(number) => add(&mut self.stops, *number),
+            Event::Plain => {}
+        }
+        let mut byte = 256;
+        let mut outcome = FINE;
+        for note in notes {
+            match note {
+                Note::Command(fetched) => byte = u16::from(*fetched),
+                Note::Operand { form, x, y, role, size, broken, .. } => match broken {
+                    Some(rule) => add(&mut self.rules, (rule, *role, *size, kernel)),
+                    None => {
+                        add(&mut self.forms, (*form, *role, *size, kernel));
+                        if *x == 15 {
+                            add(&mut self.r15, (*form, true));
+                        }
+                        if *y == 15 {
+                            add(&mut self.r15, (*form, false));
+                        }
+                    }
+                },
+                Note::Alarm { number, part } => {
+                    outcome = *number;
+                    add(&mut self.alarms, (*number, *part, kernel));
+                }
+                Note::Crossing(part) => add(&mut self.crossings, *part),
+                Note::Resume(reason) => add(&mut self.resumes, *reason),
+                Note::BadEntry { cause, reason } => add(&mut self.bad_entries, (*cause, *reason)),
+                Note::Refused { .. } => {}
+            }
+        }
+        if interrupted.is_some() {
+            return;
+        }
+        add(&mut self.commands, (byte, kernel, outcome));
+        if byte < 256 && outcome == FINE {
+            self.flags(byte as u8, before, after, event);
+        }
+    }
+
+    fn flags(&mut self, byte: u8, before: &State, after: &State, event: &Event) {
+        let old = before.status & FLAGS;
+        let new = after.status & FLAGS;
+        match byte {
+            0x70..=0x78 => {
+                let taken = crate::arith::taken(&Probe::right(), byte, before.status);
+                add(&mut self.jumps, (byte, old, taken));
+            }
+            0x00..=0x03 | 0x79 | 0x7A if *event != Event::Stop(16) => add(&mut self.kept, (byte, old)),
+            0x10..=0x66 => add(&mut self.flags, (byte, new)),
+            _ => {}
+        }
+    }
+
+    /// Plays a case and counts.
+    pub fn play(&mut self, case: &Case) {
+        let mut memory = case.image.clone();
+        let mut state = case.start;
+        for call in &case.calls {
+            if let Call::Run(n) = call {
+                state = self.run(call, *n, &state, &mut memory);
+                continue;
+            }
+            let mut probe = Probe::noting();
+            let outcome = make(&mut probe, *call, &state, &mut memory);
+            let notes = probe.notes.unwrap_or_default();
+            if outcome.refusal != 0 {
+                self.refused(&notes, call);
+            } else if *call == Call::Step {
+                self.step(&state, &outcome.state, &outcome.event, &notes);
+            } else if let Call::Request(level) = call {
+                let fate = match (state.stopped(), state.pending >> level & 1 == 1) {
+                    (true, _) => "stopped desk",
+                    (false, true) => "pending already",
+                    (false, false) => "new",
+                };
+                add(&mut self.requests, (*level, fate));
+            }
+            state = outcome.state;
+        }
+    }
+
+    fn run(&mut self, call: &Call, n: u32, start: &State, memory: &mut [u8]) -> State {
+        let mut probe = Probe::noting();
+        let refusal = make(&mut probe, Call::Run(0), start, memory).refusal;
+        if refusal != 0 {
+            self.refused(&probe.notes.unwrap_or_default(), call);
+            if n == 0 {
+                add(&mut self.runs, "of 0 steps, refused");
+            }
+            return *start;
+        }
+        let mut state = *start;
+        let mut entries = 0;
+        let mut done = 0;
+        while done < n && !state.stopped() {
+            let mut probe = Probe::noting();
+            let outcome = make(&mut probe, Call::Step, &state, memory);
+            self.step(&state, &outcome.state, &outcome.event, &probe.notes.unwrap_or_default());
+            if matches!(outcome.event, Event::Entry { .. }) {
+                entries += 1;
+            }
+            state = outcome.state;
+            done += 1;
+        }
+        add(
+            &mut self.runs,
+            match (n, done == n, state.stopped()) {
+                (0, _, _) => "of 0 steps",
+                (_, true, true) => "that stops in its last step",
+                (_, true, false) => "that does all its steps",
+                _ => "that stops earlier",
+            },
+        );
+        if entries > 0 && !state.stopped() && done > entries {
+            add(&mut self.runs, "that goes on over an entry");
+        }
+        state
+    }
+}

@@ -1,0 +1,61 @@
+//! The case generator.
+
+pub mod alarms;
+pub mod entries;
+pub mod grid;
+pub mod layout;
+pub mod maker;
+pub mod orders;
+pub mod pick;
+pub mod refusals;
+pub mod special;
+pub mod traps;
+pub mod walks;
+
+use crate::case::Case;
+use crate::code::decode;
+use crate::rng::Rng;
+
+/// Every known command byte.
+pub fn known_bytes() -> Vec<u8> {
+    (0..=255).filter(|byte| decode(*byte).is_some()).collect()
+}
+
+pub fn unknown_bytes() -> Vec<u8> {
+    (0..=255).filter(|byte| decode(*byte).is_none()).collect()
+}
+
+/// A generator of its own for each family, so that one doesn't move another.
+pub fn family_rng(family: &str) -> Rng {
+    let seed = family
+        .bytes()
+        .fold(0xCBF2_9CE4_8422_2325u64, |hash, byte| (hash ^ u64::from(byte)).wrapping_mul(0x0000_0100_0000_01B3));
+    Rng::new(seed)
+}
+
+pub fn shuffle<T>(rng: &mut Rng, list: &mut [T]) {
+    for i in (1..list.len()).rev() {
+        list.swap(i, rng.below(i as u32 + 1) as usize);
+    }
+}
+
+/// All cases, by family.
+pub fn all() -> Vec<(&'static str, Vec<Case>)> {
+    vec![
+        ("grid", grid::grid()),
+        ("flags", grid::flags()),
+        ("rules", alarms::rules()),
+        ("unknown bytes", alarms::unknown()),
+        ("alarms", alarms::alarms()),
+        ("kernel stops", alarms::kernel_stops()),
+        ("orders", orders::orders()),
+        ("interrupts", entries::interrupts()),
+        ("resume", entries::resumes()),
+        ("status bits", entries::status_bits()),
+        ("system calls", entries::system_calls()),
+        ("refusals", refusals::refusals()),
+        ("special", special::special()),
+        ("walks", walks::walks()),
+        ("noise", walks::noise()),
+    ]
+}

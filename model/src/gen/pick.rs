@@ -1,0 +1,212 @@
+//! Picks operands and commands that can run in a layout.
+
+use super::layout::{value, Layout};
+use crate::asm;
+use crate::code::{decode, Op, Role};
+use crate::operand::Fields;
+use crate::state::*;
+
+/// Forms that a role allows.
+pub fn forms_of(role: Role) -> &'static [u8] {
+    match role {
+        Role::Value => &[0, 1, 2, 3, 4, 5, 6, 7, 8],
+        Role::Address => &[0, 3, 4, 5, 6, 7, 8],
+        Role::Destination | Role::Both => &[0, 2, 3, 4, 5, 6, 7, 8],
+    }
+}
+
+/// Registers as an operand sees them, with the steps of earlier operands.
+pub type Seen = [u32; 16];
+
+impl Layout {
+    fn kernel(&self) -> bool {
+        self.maker.state.kernel()
+    }
+
+    /// Whether none of the bytes holds laid code and all can be looked up.
+    pub fn plain(&self, address: u32, size: u32) -> bool {
+        (0..size).all(|i| match self.maker.real(address.wrapping_add(i)) {
+            Some(real) => !self.maker.owned(real),
+            None => false,
+        })
+    }
+
+    /// An address for `size` bytes, if possible without laid code.
+    pub fn free_address(&mut self, size: u32, write: bool) -> u32 {
+        let mut address = 0;
+        for _ in 0..12 {
+            address = self.address(self.kernel(), size, write);
+            if self.plain(address, size) {
+                break;
+            }
+        }
+        address
+    }
+
+    /// A place where the desk can go on with new code.
+    pub fn code_target(&mut self) -> u32 {
+        let mut address = 0;
+        for _ in 0..20 {
+            address = self.address(self.kernel(), 1, false);
+            if self.plain(address, 24) {
+                break;
+            }
+        }
+        address
+    }
+
+    /// Lays bytes at an address as far as it can be looked up.
+    pub fn lay_at(&mut self, address: u32, bytes: &[u8]) {
+        for (i, byte) in bytes.iter().enumerate() {
+            if let Some(real) = self.maker.real(address.wrapping_add(i as u32)) {
+                if !self.maker.owned(real) {
+                    self.maker.lay(real, &[*byte]);
+                }
+            }
+        }
+    }
+
+    /// A register whose value, moved by `difference`, is a usable address.
+    fn stepping(&mut self, seen: &Seen, size: u32, write: bool, down: bool) -> u8 {
+        let first = self.maker.rng.below(15);
+        for i in 0..15 {
+            let x = (first + i) % 15;
+            let at = if down { seen[x as usize].wrapping_sub(size) } else { seen[x as usize] };
+            let good = self.plain(at, size);
+            let page = at / FRAME_BYTES;
+            let kind = self.kinds.get(page as usize);
+            if good && (!write || self.kernel() || kind == Some(&super::layout::Kind::Writable)) {
+                return x as u8;
+            }
+        }
+        4 + self.maker.rng.below(6) as u8
+    }
+
+    /// Fields of an operand in a given form. `seen[15]` is the address after it.
+    pub fn operand(&mut self, seen: &mut Seen, op: Op, role: Role, size: u32, form: u8) -> Fields {
+        let write = role == Role::Destination || role == Role::Both;
+        let jumps = matches!(op, Op::Jump(_) | Op::Call);
+        let target = if jumps {
+            self.code_target()
+        } else if role == Role::Address && self.maker.rng.chance(50) {
+            self.maker.rng.word()
+        } else {
+            self.free_address(size, write)
+        };
+        let mut x = self.maker.rng.below(15) as u8;
+        if self.maker.rng.chance(10) {
+            x = 15;
+        }
+        let y = if self.maker.rng.chance(8) { 15 } else { self.maker.rng.below(14) as u8 };
+        let index = seen[y as usize].wrapping_mul(size);
+        let used = (role == Role::Value || role == Role::Both) && !matches!(form, 1 | 2 | 7 | 8);
+        if used && self.maker.rng.chance(50) {
+            let value = value(&mut self.maker.rng, size);
+            self.lay_at(target, &value.to_be_bytes()[4 - size as usize..]);
+        }
+        match form {
+            0 => asm::absolute(target),
+            1 => {
+                let mut chosen = value(&mut self.maker.rng, size);
+                if chosen == 0 && op == Op::Div && self.maker.rng.chance(80) {
+                    chosen = 3;
+                }
+                if matches!(op, Op::Sh | Op::Rot) && self.maker.rng.chance(60) {
+                    chosen = self.maker.rng.below(80).wrapping_sub(40);
+                }
+                asm::immediate(chosen)
+            }
+            2 => {
+                if write && x == 15 && self.maker.rng.chance(60) {
+                    x = 10;
+                }
+                asm::register(x)
+            }
+            3 => asm::relative(target.wrapping_sub(seen[x as usize]), x),
+            4 => asm::indexed(target.wrapping_sub(seen[x as usize]).wrapping_sub(index), x, y),
+            5 | 6 => {
+                let at = self.free_address(4, false);
+                let word = if form == 5 { target } else { target.wrapping_sub(index) };
+                self.lay_at(at, &word.to_be_bytes());
+                let z = at.wrapping_sub(seen[x as usize]);
+                if form == 5 {
+                    asm::indirect(z, x)
+                } else {
+                    asm::indirect_indexed(z, x, y)
+                }
+            }
+            7 => {
+                let x = self.stepping(seen, size, write, true);
+                seen[x as usize] = seen[x as usize].wrapping_sub(size);
+                asm::lowered(x)
+            }
+            _ => {
+                let x = self.stepping(seen, size, write, false);
+                seen[x as usize] = seen[x as usize].wrapping_add(size);
+                asm::raised(x)
+            }
+        }
+    }
+
+    /// A command at R15; `forced` names the form of one operand (from 0).
+    pub fn pick_command(&mut self, byte: u8, forced: Option<(usize, u8)>) -> Vec<u8> {
+        let known = match decode(byte) {
+            Some(known) => known,
+            None => return vec![byte],
+        };
+        let mut seen = self.maker.state.registers;
+        self.stack_ready(known.op, &seen);
+        let mut operands = Vec::new();
+        seen[PC] = seen[PC].wrapping_add(1);
+        for (i, (role, size)) in known.operands.iter().enumerate() {
+            seen[PC] = seen[PC].wrapping_add(6);
+            let form = match forced {
+                Some((place, form)) if place == i => form,
+                _ => self.maker.rng.pick(forms_of(*role)),
+            };
+            operands.push(self.operand(&mut seen, known.op, *role, *size, form));
+        }
+        asm::command(byte, &operands)
+    }
+
+    /// Lays what RET and POPR are to find on the stack.
+    fn stack_ready(&mut self, op: Op, seen: &Seen) {
+        let sp = seen[SP];
+        if op == Op::Ret {
+            let target = self.code_target();
+            if self.plain(sp, 4) {
+                self.lay_at(sp, &target.to_be_bytes());
+            }
+        }
+        if op == Op::Popr && self.plain(sp, 60) && self.maker.rng.chance(70) {
+            for i in 0..15 {
+                let word = match i {
+                    4..=9 | 14 => self.address(self.kernel(), 4, true),
+                    _ => self.maker.rng.below(12),
+                };
+                self.lay_at(sp + 4 * i, &word.to_be_bytes());
+            }
+        }
+    }
+
+    /// Moves R15 and R14 of the start to places where code and stack have room.
+    pub fn aim(&mut self) {
+        let mut state = self.maker.state;
+        state.registers[PC] = self.code_target();
+        for _ in 0..20 {
+            state.registers[SP] = self.address(state.kernel(), 4, true);
+            if self.plain(state.registers[SP].wrapping_sub(60), 120) {
+                break;
+            }
+        }
+        self.maker.begin(state);
+    }
+
+    /// After an entry: kernel code that leads back to user mode at `target`.
+    pub fn go_on_at(&mut self, target: u32) {
+        let block = self.maker.state.control_block;
+        let to = self.maker.point_at(block + 60);
+        let resume = self.maker.resume_here();
+        self.maker.kernel_commands(&[asm::command(0x12, &[asm::immediate(target), to]), resume]);
+    }
+}

@@ -1,0 +1,25 @@
+//! A reference model of the MI desk, written from document 01 and the named
+//! sections of document 000. Slow and byte by byte.
+
+pub mod arith;
+pub mod asm;
+pub mod case;
+pub mod checks;
+pub mod code;
+pub mod commands;
+pub mod cover;
+pub mod desk;
+pub mod entry;
+pub mod fault;
+pub mod flag_table;
+pub mod gen;
+pub mod memory;
+pub mod operand;
+pub mod rng;
+pub mod state;
+pub mod store;
+pub mod table;
+pub mod trace;
+
+#[cfg(test)]
+mod tests;

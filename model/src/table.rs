@@ -1,0 +1,324 @@
+//! Prints the coverage tables and finds what is missing.
+
+use crate::code::{decode, Op, Role};
+use crate::cover::{Counts, Cover, FINE};
+use crate::fault::{role_index, Part};
+
+/// Collects cells; a cell that must be reached and isn't is missing.
+#[derive(Default)]
+pub struct Table {
+    pub cells: u32,
+    pub impossible: u32,
+    pub missing: Vec<String>,
+}
+
+impl Table {
+    /// One cell's text. `wanted` says that the rules allow it.
+    pub fn cell<K: Ord>(&mut self, counts: &Counts<K>, key: K, wanted: bool, name: String) -> String {
+        let count = counts.get(&key).copied().unwrap_or(0);
+        if !wanted {
+            self.impossible += 1;
+            assert_eq!(count, 0, "reached, though impossible: {name}");
+            return "-".to_string();
+        }
+        self.cells += 1;
+        if count == 0 {
+            self.missing.push(name);
+            return "MISSING".to_string();
+        }
+        count.to_string()
+    }
+}
+
+const ROLES: [(&str, Role); 4] = [
+    ("value", Role::Value),
+    ("address", Role::Address),
+    ("destination", Role::Destination),
+    ("read and written", Role::Both),
+];
+
+fn mode_name(kernel: bool) -> &'static str {
+    if kernel {
+        "kernel"
+    } else {
+        "user"
+    }
+}
+
+/// Outcomes that the rules allow for a byte in a mode.
+fn allowed(byte: u16, kernel: bool) -> Vec<u32> {
+    if byte == 256 {
+        return if kernel { vec![8] } else { vec![8, 9, 10] };
+    }
+    let Some(known) = decode(byte as u8) else { return vec![12] };
+    match known.op {
+        Op::Halt if !kernel => return vec![13],
+        Op::Resume if !kernel => return vec![13],
+        Op::SystemCall if kernel => return vec![13],
+        Op::Halt => return vec![FINE],
+        _ => {}
+    }
+    let mut list = vec![FINE, 8];
+    if !kernel {
+        list.extend([9, 10]);
+        let writes = known.operands.iter().any(|(role, _)| matches!(role, Role::Destination | Role::Both));
+        if writes || matches!(known.op, Op::Call | Op::Pushr) {
+            list.push(11);
+        }
+    }
+    if !known.operands.is_empty() {
+        list.push(14);
+    }
+    if known.op == Op::Div {
+        list.push(15);
+    }
+    list
+}
+
+pub fn commands(cover: &Cover, table: &mut Table) {
+    println!("Command bytes: outcomes by mode (0 is without alarm; '-' is impossible by the rules)");
+    println!("  byte    mode    {:>7}{:>8}{:>8}{:>8}{:>8}{:>8}{:>8}{:>8}{:>8}", 0, 8, 9, 10, 11, 12, 13, 14, 15);
+    for byte in (0..=256u16).filter(|b| *b == 256 || decode(*b as u8).is_some()) {
+        for kernel in [false, true] {
+            let name = if byte == 256 { "none".into() } else { format!("{byte:02X}h") };
+            let wanted = allowed(byte, kernel);
+            let mut line = format!("  {name:7} {:7}", mode_name(kernel));
+            for outcome in [FINE, 8, 9, 10, 11, 12, 13, 14, 15] {
+                let cell = table.cell(
+                    &cover.commands,
+                    (byte, kernel, outcome),
+                    wanted.contains(&outcome),
+                    format!("byte {name} {} outcome {outcome}", mode_name(kernel)),
+                );
+                line += &format!("{cell:>8}");
+            }
+            println!("{line}");
+        }
+    }
+    let mut unknown = [0, 0];
+    for byte in (0..256u16).filter(|b| decode(*b as u8).is_none()) {
+        for kernel in [false, true] {
+            table.cell(&cover.commands, (byte, kernel, 12), true, format!("unknown {byte:02X}h {}", mode_name(kernel)));
+            unknown[usize::from(kernel)] += u32::from(cover.commands.contains_key(&(byte, kernel, 12)));
+        }
+    }
+    println!("  unknown bytes giving 12: {} in user mode, {} in kernel mode", unknown[0], unknown[1]);
+    println!(
+        "  impossible: 9 to 11 in kernel mode (no map); 11 without a write; 13 but for HALT, RESUME and system call;"
+    );
+    println!("  HALT and RESUME in user mode and the system call in kernel mode end with 13; 14 needs an operand; 15 needs DIV\n");
+}
+
+pub fn forms(cover: &Cover, table: &mut Table) {
+    println!("Forms by role, L and mode: operands that keep the rules");
+    for (name, role) in ROLES {
+        for size in [1, 2, 4] {
+            for kernel in [false, true] {
+                let mut line = format!("  {name:16} {size} {:7}", mode_name(kernel));
+                for form in 0..=8u8 {
+                    let wanted = (role != Role::Address || size == 4)
+                        && match form {
+                            1 => role == Role::Value,
+                            2 => role != Role::Address,
+                            _ => true,
+                        };
+                    let label = format!("form {form} as {name} of {size} in {} mode", mode_name(kernel));
+                    let cell = table.cell(&cover.forms, (form, role_index(role), size, kernel), wanted, label);
+                    line += &format!("{cell:>8}");
+                }
+                println!("{line}");
+            }
+        }
+    }
+    println!("  impossible: form 1 is no destination; forms 1 and 2 have no address; an address operand's L is 4\n");
+    println!("R15 as x or y");
+    for form in 2..=8u8 {
+        let x = table.cell(&cover.r15, (form, true), form < 7, format!("x = 15 in form {form}"));
+        let y = table.cell(&cover.r15, (form, false), form == 4 || form == 6, format!("y = 15 in form {form}"));
+        println!("  form {form}: x {x:>6}  y {y:>6}");
+    }
+    println!("  impossible: forms 7 and 8 exclude x = 15; other forms than 4 and 6 don't use y\n");
+}
+
+pub fn rules(cover: &Cover, table: &mut Table) {
+    println!("Broken form rules by role and L (user mode, kernel mode)");
+    let list = [
+        "0: x",
+        "0: y",
+        "1: destination",
+        "1: no address",
+        "1: x",
+        "1: y",
+        "1: other bytes",
+        "2: no address",
+        "2: y",
+        "2: z",
+        "3: y",
+        "5: y",
+        "7, 8: x = 15",
+        "7, 8: y",
+        "7, 8: z",
+        "above 8",
+    ];
+    for rule in list {
+        let mut line = format!("  {rule:16}");
+        for (name, role) in ROLES {
+            for size in [1, 2, 4] {
+                let written = matches!(role, Role::Destination | Role::Both);
+                let wanted = (role != Role::Address || size == 4)
+                    && match rule {
+                        "1: destination" => written,
+                        "1: no address" | "2: no address" => role == Role::Address,
+                        "1: x" | "1: y" => role == Role::Value,
+                        "1: other bytes" => role == Role::Value && size < 4,
+                        "2: y" | "2: z" => role != Role::Address,
+                        _ => true,
+                    };
+                for kernel in [false, true] {
+                    let label = format!("rule {rule} as {name} of {size} in {} mode", mode_name(kernel));
+                    let cell = table.cell(&cover.rules, (rule, role_index(role), size, kernel), wanted, label);
+                    line += &format!("{cell:>4}");
+                }
+            }
+        }
+        println!("{line}");
+    }
+    println!(
+        "  columns: value 1 2 4, address 1 2 4, destination 1 2 4, read and written 1 2 4, each user and kernel\n"
+    );
+}
+
+pub fn alarms(cover: &Cover, table: &mut Table) {
+    println!("Alarms by part of the command");
+    let mut parts = vec![(Part::Byte, vec![8, 9, 10, 12]), (Part::Mode, vec![13])];
+    for place in 1..=3 {
+        parts.push((Part::Fetch(place), vec![8, 9, 10]));
+        parts.push((Part::Form(place), vec![14]));
+        parts.push((Part::Indirect(place), vec![8, 9, 10]));
+        if place < 3 {
+            parts.push((Part::Value(place), vec![8, 9, 10]));
+        }
+    }
+    parts.push((Part::Stack, vec![8, 9, 10]));
+    parts.push((Part::Operation, vec![14, 15]));
+    parts.push((Part::Write, vec![8, 9, 10, 11]));
+    for (part, numbers) in parts {
+        for kernel in [false, true] {
+            let mut line = format!("  {:12} {:7}", format!("{part:?}"), mode_name(kernel));
+            for number in 8..=15 {
+                let mut wanted = numbers.contains(&number);
+                if kernel {
+                    wanted &= !(9..=11).contains(&number);
+                } else {
+                    wanted &= !(part == Part::Operation && number == 14);
+                }
+                let label = format!("alarm {number} at {part:?} in {} mode", mode_name(kernel));
+                let cell = table.cell(&cover.alarms, (number, part, kernel), wanted, label);
+                line += &format!("{cell:>8}");
+            }
+            println!("{line}");
+        }
+    }
+    println!(
+        "  columns: 8 to 15. Impossible: 14 at the operation is RESUME's, in kernel mode only; a third operand's value"
+    );
+    println!("  is never used; 9 to 11 need the map\n");
+    println!("Bytes in two pages, read or written without an alarm");
+    for place in 1..=3 {
+        let mut line = format!("  operand {place}: ");
+        for (name, part) in
+            [("fetch", Part::Fetch(place)), ("indirect word", Part::Indirect(place)), ("value", Part::Value(place))]
+        {
+            let cell = table.cell(&cover.crossings, part, part != Part::Value(3), format!("{part:?} in two pages"));
+            line += &format!(" {name} {cell:>4}");
+        }
+        println!("{line}");
+    }
+    for part in [Part::Stack, Part::Write] {
+        println!("  {part:?}: {:>4}", table.cell(&cover.crossings, part, true, format!("{part:?} in two pages")));
+    }
+    println!();
+}
+
+pub fn entries(cover: &Cover, table: &mut Table) {
+    println!("Causes: entries, and stops 16 by a user status or an undefined bit");
+    let causes: Vec<u32> = [1].into_iter().chain(8..=15).chain(17..=31).collect();
+    for cause in &causes {
+        let entered = table.cell(&cover.entries, *cause, true, format!("entry with cause {cause}"));
+        let total: u32 = cover.bad_entries.iter().filter(|((c, _), _)| c == cause).map(|(_, count)| *count).sum();
+        table.cells += 1;
+        if total == 0 {
+            table.missing.push(format!("stop 16 with cause {cause}"));
+        }
+        println!("  {cause:2}: {entered:>6} {total:>6}");
+    }
+    for reason in ["entry has a user status", "entry has an undefined status bit"] {
+        let total: u32 = cover.bad_entries.iter().filter(|((_, r), _)| *r == reason).map(|(_, c)| *c).sum();
+        table.cells += 1;
+        if total == 0 {
+            table.missing.push(reason.to_string());
+        }
+        println!("  {reason}: {total}");
+    }
+    println!("  other causes are impossible: 1, the alarm numbers 8 to 15 and 16 + level are all that enter");
+    println!("Stops");
+    for number in [0, 8, 9, 10, 11, 12, 13, 14, 15, 16] {
+        let wanted = !(9..=11).contains(&number);
+        println!("  {number:2}: {:>6}", table.cell(&cover.stops, number, wanted, format!("stop {number}")));
+    }
+    println!("  impossible: 9 to 11 come from the map, which kernel mode doesn't use\n");
+}
+
+pub fn refusals(cover: &Cover, table: &mut Table) {
+    println!("Refusals by call (step, run, request, fresh)");
+    let list = [
+        (1, "length 0", "srf"),
+        (1, "length above 16,777,216", "srf"),
+        (1, "length no multiple of 512", "srf"),
+        (2, "system block no multiple of 4", "srf"),
+        (2, "system block doesn't fit", "srf"),
+        (3, "control block no multiple of 4", "srf"),
+        (3, "control block doesn't fit", "srf"),
+        (4, "map base no multiple of 4", "sr"),
+        (4, "map doesn't fit", "sr"),
+        (5, "status has an undefined bit", "srq"),
+        (5, "pending set has level 0", "srq"),
+        (6, "level 0", "q"),
+        (6, "level above 15", "q"),
+        (7, "stopped", "sr"),
+    ];
+    for (number, reason, calls) in list {
+        let mut line = format!("  {number} {reason:32}");
+        for (letter, kind) in [('s', "step"), ('r', "run"), ('q', "request"), ('f', "fresh")] {
+            let label = format!("refusal {number} of {kind}: {reason}");
+            let cell = table.cell(&cover.refusals, (number, kind, reason), calls.contains(letter), label);
+            line += &format!("{cell:>8}");
+        }
+        println!("{line}");
+    }
+    println!("  impossible: a request tries 5 and 6 only, a fresh desk 1 to 3, step and run all but 6\n");
+    println!("Runs");
+    for what in [
+        "of 0 steps",
+        "of 0 steps, refused",
+        "that does all its steps",
+        "that stops in its last step",
+        "that stops earlier",
+        "that goes on over an entry",
+    ] {
+        println!("  {what:32} {:>6}", table.cell(&cover.runs, what, true, format!("run {what}")));
+    }
+    println!("RESUME");
+    for what in [
+        "good",
+        "block doesn't fit",
+        "block no multiple of 4",
+        "map base no multiple of 4",
+        "map doesn't fit",
+        "block has a kernel status",
+        "block has an undefined status bit",
+    ] {
+        println!("  {what:32} {:>6}", table.cell(&cover.resumes, what, true, format!("RESUME: {what}")));
+    }
+    println!();
+}
