@@ -1,0 +1,5 @@
+mod Cases
+mod Seats
+mod Reading
+mod OneLookup
+mod Storing

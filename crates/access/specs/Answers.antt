@@ -1,0 +1,69 @@
+-- What the answers of this crate's functions say, in the terms of `mi`. Assumes nothing.
+use Prim.Native.Nat.{ℕ, zero, suc, _+_, _*_, _/_, _%_, _≤_, _<_}
+use mathlib.Core.Path.{_≡_}
+use lib.ListN.{length}
+use Rattle.mi.specs.declared.RealAddress.{RealAddress}
+use Rattle.mi.specs.declared.VirtualAddress.{VirtualAddress}
+use Rattle.mi.specs.Words.{Memory, byteAt, span}
+use Rattle.mi.specs.Map.{Tried, got, alarm, Found, foundAt, RealWrites, commit}
+use Rattle.mi.specs.Operands.{Fields}
+use Rattle.access.specs.declared.Seat.{Seat}
+use Rattle.access.specs.declared.Seat.the-variants as seat
+use Rattle.access.specs.declared.Got.{Got}
+use Rattle.access.specs.declared.Got.the-variants as value
+use Rattle.access.specs.declared.Raw.{Raw}
+use Rattle.access.specs.declared.Raw.the-variants as raw
+use Rattle.access.specs.declared.Stored.{Stored}
+use Rattle.access.specs.declared.Stored.the-variants as stored
+
+-- what a lookup relies on: numbers 1 and 4 have nothing to refuse
+pub record Fits (base : RealAddress) (entries : ℕ) (m : Memory) : Type 0 where
+  pub map : base .0 + 4 * entries ≤ length m
+  pub small : length m ≤ 16777216
+  pub whole : length m % 512 ≡ 0
+
+-- a lookup of address x in memory m
+abbrev pub seatAs : Memory → VirtualAddress → Seat → Tried Found
+seatAs m x (seat.At a) = got (foundAt m a)
+seatAs m x (seat.Alarm n) = alarm n (x .0)
+
+abbrev pub gotAs : Got → Tried ℕ
+gotAs (value.Value n) = got n
+gotAs (value.Alarm n x) = alarm n x
+
+-- a value that was read from L bytes is below 256 ^ L
+abbrev pub SpanOrAlarm : ℕ → Got → Type 0
+SpanOrAlarm L (value.Value n) = n < span L
+SpanOrAlarm L (value.Alarm n x) = Unit {0}
+
+-- a value that was fetched is a byte
+abbrev pub ByteOrAlarm : Got → Type 0
+ByteOrAlarm (value.Value n) = n < 256
+ByteOrAlarm (value.Alarm n x) = Unit {0}
+
+-- the L bytes of memory from place a on as one number, highest first, after those that make up acc
+unfoldable pub valueAt : Memory → ℕ → ℕ → ℕ → ℕ
+valueAt m zero a acc = acc
+valueAt m (suc L) a acc = valueAt m L (a + 1) (acc * 256 + byteAt m a)
+
+abbrev pub rawAs : Raw → Tried Fields
+rawAs (raw.Fields f q z) = got (record { form = f; x = q / 16; y = q % 16; z = z })
+rawAs (raw.Alarm n x) = alarm n x
+
+-- a register pair that was fetched is a byte
+abbrev pub PairOrAlarm : Raw → Type 0
+PairOrAlarm (raw.Fields f q z) = q < 256
+PairOrAlarm (raw.Alarm n x) = Unit {0}
+
+-- how a store ends, with the memory that it leaves
+pub data Ended : Type 0 where
+  wrote : Memory → Ended
+  failed : ℕ → ℕ → Memory → Ended
+
+abbrev pub storedAs : Stored → Memory → Ended
+storedAs stored.Done m = wrote m
+storedAs (stored.Alarm n x) m = failed n x m
+
+abbrev pub endedBy : Memory → Tried RealWrites → Ended
+endedBy m (got ws) = wrote (commit ws m)
+endedBy m (alarm n x) = failed n x m

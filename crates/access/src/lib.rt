@@ -1,0 +1,377 @@
+// Memory as a command sees it: the map lookup, reads, fetches and stores. Every promise is an equation with the view of `mi`.
+// Where the bytes of a value lie in one page, one lookup answers for all of them; the bytewise way stands beside it.
+ghost use mathlib.Core.Path.{_≡_};
+ghost use Prim.Native.Nat.{_+_, _≤_, _<_};
+ghost use lib.ListN.{length, take};
+ghost use Rattle.mi.specs.Words.{lengthOf, wordAt, bytesOf};
+ghost use Rattle.mi.specs.Map.{inFrame, mapped, viewBy, readBytes, located, writesFrom, realWritesFrom, commit};
+ghost use Rattle.mi.specs.Operands.{fieldsAt};
+ghost use Rattle.access.specs.Answers.{Fits, seatAs, gotAs, SpanOrAlarm, ByteOrAlarm, rawAs, PairOrAlarm, valueAt, storedAs, endedBy};
+use mi::Access;
+use mi::FrameNumber;
+use mi::RealAddress;
+use mi::Size;
+use mi::VirtualAddress;
+
+// Where a byte lies, or the number of an alarm.
+pub enum Seat {
+    At(RealAddress),
+    Alarm(u32),
+}
+
+// A value, or an alarm and its argument.
+pub enum Got {
+    Value(u32),
+    Alarm(u32, u32),
+}
+
+// An operand's form byte, register pair and word, or an alarm and its argument.
+pub enum Raw {
+    Fields(u32, u32, u32),
+    Alarm(u32, u32),
+}
+
+// A store is done, or an alarm and its argument.
+pub enum Stored {
+    Done,
+    Alarm(u32, u32),
+}
+
+fn wide(x: u8) -> u32
+    ensures { λ r. ⌜ (r ≡ x) × (r < 256) ⌝ }
+{
+    x as u32
+}
+
+pub fn word(mem: &[u8], a: usize) -> u32
+    requires { ⌜ a + 4 ≤ length (now mem) ⌝ }
+    ensures { λ r. ⌜ r ≡ wordAt (now (mem .entry)) a ⌝ }
+{
+    wide(mem[a]) * 0x100_0000
+        + wide(mem[a + 1]) * 0x1_0000
+        + wide(mem[a + 2]) * 0x100
+        + wide(mem[a + 3])
+}
+
+// ---- The lookup: the only place where a virtual address becomes a frame number and a real address.
+
+fn in_frame(f: FrameNumber, x: VirtualAddress) -> RealAddress
+    requires { ⌜ f .0 < 32768 ⌝ }
+    ensures { λ r. ⌜ r ≡ inFrame f x ⌝ }
+{
+    RealAddress(512 * f.0 + x.0 % 512)
+}
+
+// In user mode.
+fn look_mapped(mem: &[u8], base: RealAddress, entries: u32, x: VirtualAddress, why: Access) -> Seat
+    requires { ⌜ Fits base entries (now mem) ⌝ }
+    ensures { λ r. ⌜ seatAs (now (mem .entry)) x r ≡ mapped base entries (now (mem .entry)) x why ⌝ }
+{
+    let p = x.0 / 512;
+    if entries <= p {
+        return Seat::Alarm(8);
+    }
+    let e = word(mem, (base.0 + 4 * p) as usize);
+    if e < 0x8000_0000 {
+        return Seat::Alarm(9);
+    }
+    let f = e % 0x4000_0000;
+    if mem.len() / 512 <= f as usize {
+        return Seat::Alarm(10);
+    }
+    match why {
+        Access::Fetch => Seat::At(in_frame(FrameNumber(f), x)),
+        Access::Read => Seat::At(in_frame(FrameNumber(f), x)),
+        Access::Write => {
+            if e % 0x8000_0000 < 0x4000_0000 {
+                return Seat::Alarm(11);
+            }
+            Seat::At(in_frame(FrameNumber(f), x))
+        }
+    }
+}
+
+// In the mode that the status tells.
+pub fn look(
+    mem: &[u8],
+    status: u32,
+    base: RealAddress,
+    entries: u32,
+    x: VirtualAddress,
+    why: Access,
+) -> Seat
+    requires { ⌜ Fits base entries (now mem) ⌝ }
+    ensures { λ r. ⌜ seatAs (now (mem .entry)) x r ≡ viewBy status base entries (now (mem .entry)) x why ⌝ }
+{
+    if status < 0x8000_0000 {
+        return look_mapped(mem, base, entries, x, why);
+    }
+    if (x.0 as usize) < mem.len() {
+        return Seat::At(RealAddress(x.0));
+    }
+    Seat::Alarm(8)
+}
+
+// ---- Reads
+
+// Byte by byte, n bytes from x.
+fn read_bytewise(
+    mem: &[u8],
+    status: u32,
+    base: RealAddress,
+    entries: u32,
+    x: VirtualAddress,
+    n: usize,
+    why: Access,
+) -> Got
+    requires { ⌜ Fits base entries (now mem) × (n ≤ 4) ⌝ }
+    ensures value { λ r. ⌜ gotAs r ≡ readBytes (viewBy status base entries (now (mem .entry))) why n x ⌝ }
+    ensures small { λ r. ⌜ SpanOrAlarm n r ⌝ }
+{
+    let mut acc: u32 = 0;
+    let mut i: usize = 0;
+    while i < n {
+        let a = std::num::wrapping_add_u32(x.0, i as u32);
+        let s = look(mem, status, base, entries, VirtualAddress(a), why);
+        match s {
+            Seat::At(r) => {
+                let at = r.0 as usize;
+                acc = acc * 256 + wide(mem[at]);
+            }
+            Seat::Alarm(k) => {
+                return Got::Alarm(k, a);
+            }
+        }
+        i += 1;
+    }
+    Got::Value(acc)
+}
+
+// The value of a size at a place of memory.
+fn value_at(mem: &[u8], a: usize, size: Size) -> u32
+    requires { ⌜ a + lengthOf size ≤ length (now mem) ⌝ }
+    ensures { λ r. ⌜ r ≡ valueAt (now (mem .entry)) (lengthOf size) a 0 ⌝ }
+{
+    match size {
+        Size::B => wide(mem[a]),
+        Size::H => wide(mem[a]) * 256 + wide(mem[a + 1]),
+        Size::W => word(mem, a),
+    }
+}
+
+// The value of a size at an address.
+pub fn read(
+    mem: &[u8],
+    status: u32,
+    base: RealAddress,
+    entries: u32,
+    x: VirtualAddress,
+    size: Size,
+) -> Got
+    requires { ⌜ Fits base entries (now mem) ⌝ }
+    ensures { λ r. ⌜ gotAs r ≡ readBytes (viewBy status base entries (now (mem .entry))) Access.Read (lengthOf size) x ⌝ }
+{
+    let width = size.length();
+    if x.0 % 512 + width <= 512 {
+        let s = look(mem, status, base, entries, x, Access::Read);
+        match s {
+            Seat::At(r) => {
+                let at = r.0 as usize;
+                let v = value_at(mem, at, size);
+                return Got::Value(v);
+            }
+            Seat::Alarm(k) => {
+                return Got::Alarm(k, x.0);
+            }
+        }
+    }
+    read_bytewise(mem, status, base, entries, x, width as usize, Access::Read)
+}
+
+// A command byte.
+pub fn fetch(mem: &[u8], status: u32, base: RealAddress, entries: u32, x: VirtualAddress) -> Got
+    requires { ⌜ Fits base entries (now mem) ⌝ }
+    ensures value { λ r. ⌜ gotAs r ≡ readBytes (viewBy status base entries (now (mem .entry))) Access.Fetch 1 x ⌝ }
+    ensures small { λ r. ⌜ ByteOrAlarm r ⌝ }
+{
+    let s = look(mem, status, base, entries, x, Access::Fetch);
+    match s {
+        Seat::At(r) => {
+            let at = r.0 as usize;
+            let b = wide(mem[at]);
+            Got::Value(b)
+        }
+        Seat::Alarm(k) => Got::Alarm(k, x.0),
+    }
+}
+
+// The six bytes of an operand, byte by byte.
+fn fields_bytewise(
+    mem: &[u8],
+    status: u32,
+    base: RealAddress,
+    entries: u32,
+    x: VirtualAddress,
+) -> Raw
+    requires { ⌜ Fits base entries (now mem) ⌝ }
+    ensures value { λ r. ⌜ rawAs r ≡ fieldsAt (viewBy status base entries (now (mem .entry))) (x .0) ⌝ }
+    ensures small { λ r. ⌜ PairOrAlarm r ⌝ }
+{
+    let a = read_bytewise(mem, status, base, entries, x, 1, Access::Fetch);
+    match a {
+        Got::Alarm(n, z) => Raw::Alarm(n, z),
+        Got::Value(form) => {
+            let second = VirtualAddress(std::num::wrapping_add_u32(x.0, 1));
+            let b = read_bytewise(mem, status, base, entries, second, 1, Access::Fetch);
+            match b {
+                Got::Alarm(n, z) => Raw::Alarm(n, z),
+                Got::Value(pair) => {
+                    let third = VirtualAddress(std::num::wrapping_add_u32(x.0, 2));
+                    let c = read_bytewise(mem, status, base, entries, third, 4, Access::Fetch);
+                    match c {
+                        Got::Alarm(n, z) => Raw::Alarm(n, z),
+                        Got::Value(z) => Raw::Fields(form, pair, z),
+                    }
+                }
+            }
+        }
+    }
+}
+
+// The six bytes of an operand.
+pub fn fields(mem: &[u8], status: u32, base: RealAddress, entries: u32, x: VirtualAddress) -> Raw
+    requires { ⌜ Fits base entries (now mem) ⌝ }
+    ensures value { λ r. ⌜ rawAs r ≡ fieldsAt (viewBy status base entries (now (mem .entry))) (x .0) ⌝ }
+    ensures small { λ r. ⌜ PairOrAlarm r ⌝ }
+{
+    if x.0 % 512 <= 506 {
+        let s = look(mem, status, base, entries, x, Access::Fetch);
+        match s {
+            Seat::At(r) => {
+                let at = r.0 as usize;
+                let z = word(mem, at + 2);
+                return Raw::Fields(wide(mem[at]), wide(mem[at + 1]), z);
+            }
+            Seat::Alarm(k) => {
+                return Raw::Alarm(k, x.0);
+            }
+        }
+    }
+    fields_bytewise(mem, status, base, entries, x)
+}
+
+// ---- Stores: every byte is looked up, in the memory from the start, before any is written.
+
+// The first n of some bytes to the addresses from x on.
+pub fn store_bytes(
+    mem: &mut [u8],
+    status: u32,
+    base: RealAddress,
+    entries: u32,
+    x: VirtualAddress,
+    bytes: &[u8; 60],
+    n: usize,
+) -> Stored
+    requires { ⌜ Fits base entries (now mem) × (n ≤ 60) ⌝ }
+    ensures { λ r. ⌜ storedAs r (now (mem .exit)) ≡ endedBy (now (mem .entry)) (located (viewBy status base entries (now (mem .entry))) (writesFrom (x .0) (take n (now (bytes .entry))))) ⌝ }
+{
+    let source = &bytes[..];
+    let mut places: [u32; 60] = [0; 60];
+    let mut i: usize = 0;
+    while i < n {
+        let a = std::num::wrapping_add_u32(x.0, i as u32);
+        let s = look(mem, status, base, entries, VirtualAddress(a), Access::Write);
+        match s {
+            Seat::At(r) => {
+                places[i] = r.0;
+            }
+            Seat::Alarm(k) => {
+                return Stored::Alarm(k, a);
+            }
+        }
+        i += 1;
+    }
+    let mut j: usize = 0;
+    while j < n {
+        let at = places[j] as usize;
+        mem[at] = source[j];
+        j += 1;
+    }
+    Stored::Done
+}
+
+// The bytes of a value to a place of memory.
+fn value_to(mem: &mut [u8], a: usize, size: Size, value: u32)
+    requires { ⌜ a + lengthOf size ≤ length (now mem) ⌝ }
+    ensures { λ r. ⌜ now (mem .exit) ≡ commit (realWritesFrom a (bytesOf (lengthOf size) value)) (now (mem .entry)) ⌝ }
+{
+    match size {
+        Size::B => {
+            mem[a] = (value % 256) as u8;
+        }
+        Size::H => {
+            mem[a] = (value / 256 % 256) as u8;
+            mem[a + 1] = (value % 256) as u8;
+        }
+        Size::W => {
+            mem[a] = (value / 16777216 % 256) as u8;
+            mem[a + 1] = (value / 65536 % 256) as u8;
+            mem[a + 2] = (value / 256 % 256) as u8;
+            mem[a + 3] = (value % 256) as u8;
+        }
+    }
+}
+
+// The first bytes of a buffer are the value's, highest first.
+fn bytes_of(size: Size, value: u32) -> [u8; 60]
+    ensures { λ r. ⌜ take (lengthOf size) r ≡ bytesOf (lengthOf size) value ⌝ }
+{
+    let mut bytes: [u8; 60] = [0; 60];
+    match size {
+        Size::B => {
+            bytes[0] = (value % 256) as u8;
+        }
+        Size::H => {
+            bytes[0] = (value / 256 % 256) as u8;
+            bytes[1] = (value % 256) as u8;
+        }
+        Size::W => {
+            bytes[0] = (value / 16777216 % 256) as u8;
+            bytes[1] = (value / 65536 % 256) as u8;
+            bytes[2] = (value / 256 % 256) as u8;
+            bytes[3] = (value % 256) as u8;
+        }
+    }
+    bytes
+}
+
+// A value of a size to an address.
+pub fn store(
+    mem: &mut [u8],
+    status: u32,
+    base: RealAddress,
+    entries: u32,
+    x: VirtualAddress,
+    size: Size,
+    value: u32,
+) -> Stored
+    requires { ⌜ Fits base entries (now mem) ⌝ }
+    ensures { λ r. ⌜ storedAs r (now (mem .exit)) ≡ endedBy (now (mem .entry)) (located (viewBy status base entries (now (mem .entry))) (writesFrom (x .0) (bytesOf (lengthOf size) value))) ⌝ }
+{
+    let n = size.length();
+    if x.0 % 512 + n <= 512 {
+        let s = look(mem, status, base, entries, x, Access::Write);
+        match s {
+            Seat::At(r) => {
+                let at = r.0 as usize;
+                value_to(mem, at, size, value);
+                return Stored::Done;
+            }
+            Seat::Alarm(k) => {
+                return Stored::Alarm(k, x.0);
+            }
+        }
+    }
+    let bytes = bytes_of(size, value);
+    store_bytes(mem, status, base, entries, x, &bytes, n as usize)
+}

@@ -1,0 +1,39 @@
+-- How the operand rules of a command byte are written as one number, and what they are. Assumes nothing.
+use Prim.Native.Nat.{ℕ, zero, suc, _/_, _%_}
+use mathlib.Core.Bool.{Bool, _||_}
+use mathlib.Core.List.{List, [], _∷_}
+use mathlib.Core.Option.{Option, none, some}
+use lib.Dec.{eqb}
+use Rattle.mi.specs.declared.Size.{Size}
+use Rattle.mi.specs.declared.Size.the-variants.{B, H, W}
+use Rattle.mi.specs.declared.Role.{Role}
+use Rattle.mi.specs.declared.Role.the-variants.{Value, Address, Destination, Update}
+use Rattle.mi.specs.Words.{pick}
+use Rattle.mi.specs.State.{userMode}
+use Rattle.mi.specs.Code.{Rule, Known}
+
+-- four bits an operand, the first operand lowest: its size in the low two, 1 for B, 2 for H, 3 for W, and its role in the high two; 0 ends the list.
+
+abbrev pub sizeIn : ℕ → Size
+sizeIn n = pick (eqb (n % 4) 1) B (pick (eqb (n % 4) 2) H W)
+
+abbrev pub roleIn : ℕ → Role
+roleIn n = pick (eqb (n / 4 % 4) 0) Value (pick (eqb (n / 4 % 4) 1) Address (pick (eqb (n / 4 % 4) 2) Destination Update))
+
+-- at most k of them
+unfoldable pub rulesFrom : ℕ → ℕ → List Rule
+rulesFrom zero n = []
+rulesFrom (suc k) n = pick (eqb n 0) [] (record { size = sizeIn n; role = roleIn n } ∷ rulesFrom k (n / 16))
+
+-- of a number below 65,536
+abbrev pub rulesIn : ℕ → List Rule
+rulesIn n = rulesFrom 4 n
+
+-- a byte that is unknown has no operands
+abbrev pub knownRules : Option Known → List Rule
+knownRules none = []
+knownRules (some k) = k .operands
+
+-- 13: "HALT or RESUME in user mode, or a system call in kernel mode"
+abbrev pub forbiddenOf : ℕ → ℕ → Bool
+forbiddenOf b s = pick (userMode s) (eqb b 0 || eqb b 5) (eqb b 3)

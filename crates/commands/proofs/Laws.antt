@@ -1,0 +1,168 @@
+-- What the ends of the code are in the terms of `mi`: addresses that wrap, a status with its own flags, a store, and the order inside a command.
+-- Assumes nothing.
+use Prim.Native.Nat.{ℕ, zero, suc, _+_, _*_, _<_}
+use mathlib.Core.Path.{_≡_, refl, sym, _∙_}
+use mathlib.Core.Bool.{Bool, true, false, false≢true}
+use mathlib.Core.List.{List}
+use mathlib.Core.Option.{Option, none, some}
+use native.Mathlib.Omega.{arith}
+use Rattle.mi.specs.declared.RealAddress.{RealAddress}
+use Rattle.mi.specs.declared.Access.{Access}
+use Rattle.mi.specs.declared.Access.the-variants.{Fetch}
+use Rattle.mi.specs.declared.Size.{Size}
+use Rattle.mi.specs.declared.Result.{Result}
+use Rattle.mi.specs.Words.{pick, Memory, lengthOf, wrap}
+use Rattle.mi.specs.State.{Registers, reg, userMode, flagsOf, withFlags}
+use Rattle.mi.specs.Map.{Tried, got, alarm, _>>=_, Found, View, viewBy, RealWrites, readFrom, readBytes, located, commit}
+use Rattle.mi.specs.Code.{Common, result, CMP, PUSHR, POPR, jump, CALL, RET, systemCall, HALT, RESUME, Command, common, userOnly, kernelOnly, Rule, Known, known}
+use Rattle.mi.specs.Integers.{natural, operate}
+use Rattle.mi.specs.Operands.{virtual, past, Operands, operandsFrom, operandsOf}
+use Rattle.mi.specs.Commands.{Done, stored, commonDone, done, knownOr12, allowedInUserMode, allowedInKernelMode, actOf, commandBy, userEffect, userCommand, kernelEffect, kernelCommand}
+use Rattle.access.specs.declared.Stored.{Stored}
+use Rattle.access.specs.Answers.{storedAs, endedBy}
+use Rattle.codes.specs.Rules.{knownRules, forbiddenOf}
+use Rattle.codes.specs.Acts.{given, commonAct, commandAct, knownAct}
+use Rattle.codes.specs.Acts.{actOf as asked}
+use Rattle.commands.specs.declared.Out.{Out}
+use Rattle.commands.specs.Ends.{End, alarmed, outAs, endedAs, EndedAs, writtenEnd, doneEnd, userEnd, kernelEnd, execOf, actEnd}
+use Rattle.commands.proofs.Modes.{forbids, forbidsKnown, forbids-byte}
+
+-- ---- Addresses
+
+read-same : (v : View) (w : Access) (L a b acc : ℕ) → wrap a ≡ wrap b → readFrom v w L a acc ≡ readFrom v w L b acc
+unfolding readFrom
+read-same v w zero a b acc e = refl
+read-same v w (suc L) a b acc e = rw e (go (λ n. read-same v w L (a + 1) (b + 1) n (omega arith)) (v (record { 0 = wrap b }) w))
+  where
+    go : ((n : ℕ) → readFrom v w L (a + 1) n ≡ readFrom v w L (b + 1) n) → (t : Tried Found)
+        → (t >>= (λ f. readFrom v w L (a + 1) (acc * 256 + f .byte))) ≡ (t >>= (λ f. readFrom v w L (b + 1) (acc * 256 + f .byte)))
+    go h (got f) = h (acc * 256 + f .byte)
+    go h (alarm n x) = refl
+
+pub read-virtual : (v : View) (w : Access) (L a : ℕ) → readBytes v w L (virtual a) ≡ readBytes v w L (record { 0 = a })
+read-virtual v w L a = read-same v w L (wrap a) a 0 (omega arith)
+
+-- ---- Ends
+
+pub same-status : (s : ℕ) → withFlags s (flagsOf s) ≡ s
+unfolding withFlags
+same-status s = omega arith
+
+module _ (s : ℕ) (m : Memory) where
+  written : (d : Done) (t : Tried RealWrites) → endedAs (endedBy m t) (d .registers) (withFlags s (d .flags)) ≡ writtenEnd s m d t
+  written d (got ws) = refl
+  written d (alarm n x) = refl
+
+  -- a store of what a command writes ends the command
+  pub stored-end : (v : View) (d : Done) (m' : Memory) (t : Stored) (o : Out) → EndedAs o t (withFlags s (d .flags))
+      → storedAs t m' ≡ endedBy m (located v (d .writes)) → outAs o (d .registers) m' ≡ doneEnd s m v (got d)
+  stored-end v d m' t o e h = e .same (d .registers) m' ∙ rw h (written d (located v (d .writes)))
+
+-- ---- A command whose byte and operands are known
+
+module _ (s : ℕ) (m : Memory) (v : View) where
+  user-done : (t : Tried Done) → userEnd s m v (t >>= (λ d. got (done d))) ≡ doneEnd s m v t
+  user-done (got d) = refl
+  user-done (alarm n x) = refl
+
+  kernel-done : (t : Tried Done) → kernelEnd s m v (t >>= (λ d. got (done d))) ≡ doneEnd s m v t
+  kernel-done (got d) = refl
+  kernel-done (alarm n x) = refl
+
+  result-end : (size : Size) (o : Operands) (t : Tried Result)
+      → doneEnd s m v (t >>= (λ x. got (stored (lengthOf size) x (o .target) (o .registers)))) ≡ actEnd s m v (o .registers) (o .first) (o .target) (given size t)
+  unfolding actEnd
+  result-end size o (got x) = refl
+  result-end size o (alarm n x) = refl
+
+  common-end : (o : Operands) (c : Common)
+      → doneEnd s m v (commonDone c v (flagsOf s) o) ≡ actEnd s m v (o .registers) (o .first) (o .target) (commonAct c (flagsOf s) (o .first) (o .second))
+  unfolding actEnd commonDone located commit
+  common-end o (result op size) =
+      result-end size o (operate op (lengthOf size) (natural (lengthOf size) (o .first)) (natural (lengthOf size) (o .second)))
+  common-end o (CMP size) = refl
+  common-end o PUSHR = refl
+  common-end o POPR = refl
+  common-end o (jump c) = rw same-status
+  common-end o CALL = refl
+  common-end o RET = refl
+
+  -- the command that the byte b is, in user mode or not
+  module _ (r : Registers) (b : ℕ) where
+    fetchedEnd : Bool → Option Known → End
+    fetchedEnd u k = pick u
+        (userEnd s m v (knownOr12 b k >>= (λ k. allowedInUserMode b (k .command) >>= (λ c. operandsOf v (k .operands) (past 1 r) >>= (λ o. actOf userEffect c v (flagsOf s) o)))))
+        (kernelEnd s m v (knownOr12 b k >>= (λ k. allowedInKernelMode b (k .command) >>= (λ c. operandsOf v (k .operands) (past 1 r) >>= (λ o. actOf kernelEffect c v (flagsOf s) o)))))
+
+    forbidden-end : (u : Bool) (c : Command) (ks : List Rule) → forbids u c ≡ true → fetchedEnd u (some (record { command = c; operands = ks })) ≡ alarmed 13 b m
+    unfolding fetchedEnd knownOr12 allowedInUserMode allowedInKernelMode
+    forbidden-end u (common c) ks h = absurd (false≢true h)
+    forbidden-end true (userOnly k) ks h = absurd (false≢true h)
+    forbidden-end false (userOnly k) ks h = refl
+    forbidden-end true (kernelOnly k) ks h = refl
+    forbidden-end false (kernelOnly k) ks h = absurd (false≢true h)
+
+    alarm-end : (u : Bool) (c : Command) (ks : List Rule) (n x : ℕ) → forbids u c ≡ false → operandsOf v ks (past 1 r) ≡ alarm n x
+        → fetchedEnd u (some (record { command = c; operands = ks })) ≡ alarmed n x m
+    unfolding fetchedEnd knownOr12 allowedInUserMode allowedInKernelMode
+    alarm-end true (common c) ks n x h a = rw a
+    alarm-end false (common c) ks n x h a = rw a
+    alarm-end true (userOnly k) ks n x h a = rw a
+    alarm-end false (userOnly k) ks n x h a = absurd (false≢true (sym h))
+    alarm-end true (kernelOnly k) ks n x h a = absurd (false≢true (sym h))
+    alarm-end false (kernelOnly k) ks n x h a = rw a
+
+    asked-end : (u : Bool) (c : Command) (ks : List Rule) (o : Operands) → forbids u c ≡ false → operandsOf v ks (past 1 r) ≡ got o
+        → fetchedEnd u (some (record { command = c; operands = ks })) ≡ actEnd s m v (o .registers) (o .first) (o .target) (commandAct c (flagsOf s) (o .first) (o .second))
+    unfolding fetchedEnd knownOr12 allowedInUserMode allowedInKernelMode actOf actEnd userEffect kernelEffect
+    asked-end true (common c) ks o h a = rw a (user-done (commonDone c v (flagsOf s) o) ∙ common-end o c)
+    asked-end false (common c) ks o h a = rw a (kernel-done (commonDone c v (flagsOf s) o) ∙ common-end o c)
+    asked-end true (userOnly systemCall) ks o h a = rw a
+    asked-end false (userOnly k) ks o h a = absurd (false≢true (sym h))
+    asked-end true (kernelOnly k) ks o h a = absurd (false≢true (sym h))
+    asked-end false (kernelOnly HALT) ks o h a = rw a
+    asked-end false (kernelOnly RESUME) ks o h a = rw a
+
+    forbidden-known : (u : Bool) (k : Option Known) → forbidsKnown u k ≡ true → fetchedEnd u k ≡ alarmed 13 b m
+    forbidden-known u none h = absurd (false≢true h)
+    forbidden-known u (some k) h = forbidden-end u (k .command) (k .operands) h
+
+    alarm-known : (u : Bool) (k : Option Known) (n x : ℕ) → forbidsKnown u k ≡ false → operandsOf v (knownRules k) (past 1 r) ≡ alarm n x → fetchedEnd u k ≡ alarmed n x m
+    unfolding operandsFrom
+    alarm-known u none n x h a = cc
+    alarm-known u (some k) n x h a = alarm-end u (k .command) (k .operands) n x h a
+
+    asked-known : (u : Bool) (k : Option Known) (o : Operands) → forbidsKnown u k ≡ false → operandsOf v (knownRules k) (past 1 r) ≡ got o
+        → fetchedEnd u k ≡ actEnd s m v (o .registers) (o .first) (o .target) (knownAct k b (flagsOf s) (o .first) (o .second))
+    unfolding fetchedEnd knownOr12 actEnd
+    asked-known true none o h a = refl
+    asked-known false none o h a = refl
+    asked-known u (some k) o h a = asked-end u (k .command) (k .operands) o h a
+
+-- ---- The whole command
+
+pick-same : (u : Bool) (e : End) → pick u e e ≡ e
+pick-same true e = refl
+pick-same false e = refl
+
+module _ (s : ℕ) (base : RealAddress) (entries : ℕ) (r : Registers) (m : Memory) where
+  pub exec-unfetched : (n x : ℕ) → alarm n x ≡ readBytes (viewBy s base entries m) Fetch 1 (record { 0 = reg r 15 }) → alarmed n x m ≡ execOf s base entries r m
+  unfolding execOf userCommand kernelCommand commandBy
+  exec-unfetched n x h = rw (read-virtual, ← h, pick-same)
+
+  module _ (b : ℕ) (h : got b ≡ readBytes (viewBy s base entries m) Fetch 1 (record { 0 = reg r 15 })) (l : b < 256) where
+    fetched : execOf s base entries r m ≡ fetchedEnd s m (viewBy s base entries m) r b (userMode s) (known b)
+    unfolding execOf userCommand kernelCommand commandBy fetchedEnd
+    fetched = rw (read-virtual, ← h)
+
+    pub exec-forbidden : forbiddenOf b s ≡ true → alarmed 13 b m ≡ execOf s base entries r m
+    exec-forbidden f = sym (fetched ∙ forbidden-known s m (viewBy s base entries m) r b (userMode s) (known b) (forbids-byte (userMode s) b l ∙ f))
+
+    module _ (f : forbiddenOf b s ≡ false) where
+      pub exec-alarm : (n x : ℕ) → alarm n x ≡ operandsOf (viewBy s base entries m) (knownRules (known b)) (past 1 r) → alarmed n x m ≡ execOf s base entries r m
+      exec-alarm n x a = sym (fetched ∙ alarm-known s m (viewBy s base entries m) r b (userMode s) (known b) n x (forbids-byte (userMode s) b l ∙ f) (sym a))
+
+      pub exec-asked : (o : Operands) → got o ≡ operandsOf (viewBy s base entries m) (knownRules (known b)) (past 1 r)
+          → actEnd s m (viewBy s base entries m) (o .registers) (o .first) (o .target) (asked b (flagsOf s) (o .first) (o .second)) ≡ execOf s base entries r m
+      unfolding asked
+      exec-asked o a = sym (fetched ∙ asked-known s m (viewBy s base entries m) r b (userMode s) (known b) o (forbids-byte (userMode s) b l ∙ f) (sym a))

@@ -1,0 +1,3 @@
+mod Modes
+mod Laws
+mod Stack

@@ -1,0 +1,96 @@
+-- How a command ends, with the registers and the memory that it leaves, in the terms of `mi`. Assumes nothing.
+use Prim.Native.Nat.{ℕ}
+use mathlib.Core.Path.{_≡_}
+use mathlib.Core.List.{[]}
+use lib.ListN.{set}
+use Rattle.mi.specs.declared.RealAddress.{RealAddress}
+use Rattle.mi.specs.declared.Access.the-variants.{Read}
+use Rattle.mi.specs.declared.Target.{Target}
+use Rattle.mi.specs.Words.{pick, Memory, lengthOf}
+use Rattle.mi.specs.State.{Registers, reg, userMode, flagsOf, withFlags}
+use Rattle.mi.specs.Map.{Tried, got, alarm, _>>=_, View, viewBy, readBytes, RealWrites, located, commit}
+use Rattle.mi.specs.Operands.{virtual}
+use Rattle.mi.specs.Commands.{Done, stored, pushed, popped, called, returned, Act, done, does, SystemCall, userCommand, KernelEffect, kernelCommand}
+use Rattle.mi.specs.Commands.{halts as halting, resumes as resuming}
+use Rattle.access.specs.declared.Stored.{Stored}
+use Rattle.access.specs.Answers.{Ended, wrote, failed, storedAs}
+use Rattle.codes.specs.declared.Act.{Act as Asked}
+use Rattle.codes.specs.declared.Act.the-variants as act
+use Rattle.commands.specs.declared.Out.{Out}
+use Rattle.commands.specs.declared.Out.the-variants as out
+
+pub data End : Type 0 where
+  -- new registers, status and memory
+  went : Registers → ℕ → Memory → End
+  -- a system call: argument and registers
+  calls : ℕ → Registers → Memory → End
+  halts : Registers → Memory → End
+  -- a control block's address
+  resumes : ℕ → Memory → End
+  -- an alarm with its number and argument
+  alarmed : ℕ → ℕ → Memory → End
+
+abbrev pub outAs : Out → Registers → Memory → End
+outAs (out.Done s) r m = went r s m
+outAs (out.System x) r m = calls x r m
+outAs out.Halt r m = halts r m
+outAs (out.Resume a) r m = resumes a m
+outAs (out.Alarm n x) r m = alarmed n x m
+
+-- a store that ended, with the registers r and the status s for its success
+abbrev pub endedAs : Ended → Registers → ℕ → End
+endedAs (wrote m) r s = went r s m
+endedAs (failed n x m) r s = alarmed n x m
+
+-- a store's end as a command's, whatever the registers and the memory
+pub record EndedAs (o : Out) (t : Stored) (s : ℕ) : Type 0 where
+  pub same : (r : Registers) (m : Memory) → outAs o r m ≡ endedAs (storedAs t m) r s
+
+-- ---- From what a command came to, with status s, memory m and view v
+
+abbrev pub writtenEnd : ℕ → Memory → Done → Tried RealWrites → End
+writtenEnd s m d (got ws) = went (d .registers) (withFlags s (d .flags)) (commit ws m)
+writtenEnd s m d (alarm n x) = alarmed n x m
+
+abbrev pub doneEnd : ℕ → Memory → View → Tried Done → End
+doneEnd s m v (got d) = writtenEnd s m d (located v (d .writes))
+doneEnd s m v (alarm n x) = alarmed n x m
+
+abbrev pub userEnd : ℕ → Memory → View → Tried (Act SystemCall) → End
+userEnd s m v (got (done d)) = doneEnd s m v (got d)
+userEnd s m v (got (does c)) = calls (c .argument) (c .registers) m
+userEnd s m v (alarm n x) = alarmed n x m
+
+abbrev pub kernelEnd : ℕ → Memory → View → Tried (Act KernelEffect) → End
+kernelEnd s m v (got (done d)) = doneEnd s m v (got d)
+kernelEnd s m v (got (does (halting r))) = halts r m
+kernelEnd s m v (got (does (resuming a))) = resumes a m
+kernelEnd s m v (alarm n x) = alarmed n x m
+
+-- the command at R15, in the mode that the status tells
+unfoldable pub execOf : ℕ → RealAddress → ℕ → Registers → Memory → End
+execOf s base entries r m =
+    pick (userMode s)
+    (userEnd s m (viewBy s base entries m) (userCommand (viewBy s base entries m) r (flagsOf s)))
+    (kernelEnd s m (viewBy s base entries m) (kernelCommand (viewBy s base entries m) r (flagsOf s)))
+
+-- ---- From what its byte asks for, once its operands are taken: x is the first number, t the target
+
+abbrev pub poppedDone : View → Registers → ℕ → Tried Done
+poppedDone v r f = popped v 15 0 r >>= (λ q. got (record { registers = q; flags = f; writes = [] }))
+
+abbrev pub returnedDone : View → Registers → ℕ → Tried Done
+returnedDone v r f = readBytes v Read 4 (virtual (reg r 14)) >>= (λ w. got (returned w r f))
+
+unfoldable pub actEnd : ℕ → Memory → View → Registers → ℕ → Target → Asked → End
+actEnd s m v r x t (act.Give size y) = doneEnd s m v (got (stored (lengthOf size) y t r))
+actEnd s m v r x t (act.Flags f) = went r (withFlags s f) m
+actEnd s m v r x t (act.Jump b) = went (pick b (set r 15 x) r) s m
+actEnd s m v r x t act.Push = doneEnd s m v (got (pushed 15 (reg r 14) r [] (flagsOf s)))
+actEnd s m v r x t act.Pop = doneEnd s m v (poppedDone v r (flagsOf s))
+actEnd s m v r x t act.Call = doneEnd s m v (got (called x r (flagsOf s)))
+actEnd s m v r x t act.Return = doneEnd s m v (returnedDone v r (flagsOf s))
+actEnd s m v r x t act.System = calls x r m
+actEnd s m v r x t act.Halt = halts r m
+actEnd s m v r x t act.Resume = resumes x m
+actEnd s m v r x t (act.Alarm n a) = alarmed n a m

@@ -1,0 +1,15 @@
+-- `integers::is_negative`: the highest bit is set where the number is at least half the span. Assumes nothing.
+use borrow.Author.Needs.{needs}
+use Rattle.mi.specs.Integers.{negative}
+use Rattle.integers.proofs.is_negative.Statement.{statement}
+use Rattle.integers.proofs.is_negative.Tie as tie
+
+half-of-requires : tie.Need-half-of-requires
+half-of-requires c κs = search needs
+
+returns : tie.Need-returns
+unfolding negative
+returns c = rw (c .half-of .ensures .0)
+
+pub is-negative-spec : {M : Type 1} → statement M
+is-negative-spec = tie.close (tie.spec half-of-requires returns)

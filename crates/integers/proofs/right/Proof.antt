@@ -1,0 +1,20 @@
+-- `integers::right`: 32 times or more to the right no bit is left. Assumes nothing.
+use borrow.Author.Needs.{needs}
+use native.Mathlib.Omega.{arith}
+use mathlib.Core.Path.{refl, sym}
+use lib.Pow.{shr-le}
+use Rattle.mi.proofs.Sizes.{shift-right-all}
+use Rattle.integers.proofs.right.Statement.{statement}
+use Rattle.integers.proofs.right.Tie as tie
+
+shr-result : tie.Need-shr-result
+shr-result c = search needs
+
+returns : tie.Need-returns
+returns c = (refl, shr-le (c .before .args .x) (c .before .args .n))
+
+returns-2 : tie.Need-returns-2
+returns-2 c = (sym (shift-right-all 4 (c .before .args .x) (c .before .args .n) (c .if1 .left) (omega arith)), search needs)
+
+pub right-spec : {M : Type 1} → statement M
+right-spec = tie.close (tie.spec shr-result returns returns-2)

@@ -1,0 +1,97 @@
+-- `take_all` is right. The loop's invariant: the operands that are left give what all of them give. The measure is the number that holds their rules. Assumes nothing.
+use native.Mathlib.Omega.{arith}
+use borrow.Author.Needs.{needs}
+use Rattle.mi.specs.Operands.{withTaken, operandsOf}
+use Rattle.mi.specs.Map.{viewBy}
+use Rattle.codes.specs.Rules.{rulesIn}
+use Rattle.operands.specs.Answers.{SmallTarget}
+use Rattle.operands.proofs.Remaining.{Left, all-left, none-left, next-alarm, next-left}
+use Rattle.operands.proofs.take_all.Statement.{statement}
+use Rattle.operands.proofs.take_all.Tie as tie
+
+abbrev Inv-loop : tie.InvT-loop
+Inv-loop mem regs₀ status base entries rules first₀ second₀ target₀ place₀ rest₀ regs first second target place rest =
+    Left
+    (viewBy status base entries mem)
+    place
+    rest
+    (record { first = first; second = second; target = target; registers = regs })
+    (operandsOf (viewBy status base entries mem) (rulesIn rules) regs₀)
+    × SmallTarget target
+
+abbrev μ-loop : tie.MeasureT-loop
+μ-loop mem regs₀ status base entries rules first₀ second₀ target₀ place₀ rest₀ regs first second target place rest =
+    rest
+
+loop-holds : tie.Need-loop-holds Inv-loop μ-loop
+loop-holds c = (all-left _ _ _ (c .before .pre .1), search needs)
+
+size-in-requires : tie.Need-size-in-requires Inv-loop μ-loop
+size-in-requires c κs = search needs
+
+role-in-requires : tie.Need-role-in-requires Inv-loop μ-loop
+role-in-requires c κs = search needs
+
+operand-requires : tie.Need-operand-requires Inv-loop μ-loop
+operand-requires c κs = search needs
+
+take-requires : tie.Need-take-requires Inv-loop μ-loop
+take-requires c κs = search needs
+
+enum-known-t : tie.Need-enum-known-t Inv-loop μ-loop
+enum-known-t c = search needs
+
+chosen-requires : tie.Need-chosen-requires Inv-loop μ-loop
+chosen-requires c κs = search needs
+
+chosen-requires-2 : tie.Need-chosen-requires-2 Inv-loop μ-loop
+chosen-requires-2 c κs = search needs
+
+enum-known-t-2 : tie.Need-enum-known-t-2 Inv-loop μ-loop
+enum-known-t-2 c = search needs
+
+returns : tie.Need-returns Inv-loop μ-loop
+returns c =
+    let t = c .before .before .before in
+    let o = t .before .before in
+    let s = o .before .before in
+    (next-alarm _ _ _ _ _ (s .before .before .before .loop .inv .0) (s .before .before .loop-test .taken) _ (s .before .size-in .ensures) _ (s .role-in .ensures) (o .operand .result) (o .operand .last .1 .0) (o .operand .ensures .0) _ (t .take .ensures .0) _ _ (c .before .t2 .given .1), search needs)
+
+add-place : tie.Need-add-place Inv-loop μ-loop
+add-place c = search needs
+
+loop-less : tie.Need-loop-less Inv-loop μ-loop
+loop-less c = search needs
+
+loop-again : tie.Need-loop-again Inv-loop μ-loop
+unfolding withTaken
+loop-again c =
+    let t = c .before .before .before .before .before in
+    let o = t .before .before in
+    let s = o .before .before in
+    let got = c .before .before .before .t .given .1 in
+    (rw (c .before .chosen .ensures, c .chosen2 .ensures) (next-left _ _ _ _ _ (s .before .before .before .loop .inv .0) (s .before .before .loop-test .taken) _ (s .before .size-in .ensures) _ (s .role-in .ensures) (o .operand .result) (o .operand .last .1 .0) (o .operand .ensures .0) _ (t .take .ensures .0) _ _ got), rw got at (t .take .ensures .1))
+
+returns-2 : tie.Need-returns-2 Inv-loop μ-loop
+returns-2 c = (none-left _ _ _ _ _ (c .before .loop .inv .0) (omega arith), c .before .loop .inv .1)
+
+pub take-all-spec : {M : Type 1} → statement M
+take-all-spec =
+    tie.close
+    (tie.spec
+    Inv-loop
+    μ-loop
+    loop-holds
+    size-in-requires
+    role-in-requires
+    operand-requires
+    take-requires
+    enum-known-t
+    chosen-requires
+    chosen-requires-2
+    enum-known-t-2
+    returns
+    add-place
+    loop-less
+    loop-again
+    returns-2)

@@ -1,0 +1,82 @@
+-- What the answers of this crate's functions say, in the terms of `mi`. Assumes nothing.
+use Prim.Native.Nat.{ℕ, _+_, _<_}
+use mathlib.Core.Path.{_≡_}
+use Rattle.mi.specs.declared.Role.{Role}
+use Rattle.mi.specs.declared.Role.the-variants.{Address, Destination}
+use Rattle.mi.specs.Words.{pick}
+use Rattle.mi.specs.State.{Registers}
+use Rattle.mi.specs.declared.Target.{Target}
+use Rattle.mi.specs.declared.Target.the-variants as target
+use Rattle.mi.specs.Map.{Tried, got, alarm, _>>=_, View}
+use Rattle.mi.specs.Operands.{Fields, virtual, keepsRules, immediate, register, memory, Operand, at, byForm, valueIn, Taken, taken, takenBy, Operands as Given}
+use Rattle.access.specs.declared.Got.{Got}
+use Rattle.access.specs.Answers.{gotAs}
+use Rattle.operands.specs.declared.Spot.{Spot}
+use Rattle.operands.specs.declared.Spot.the-variants as spot
+use Rattle.operands.specs.declared.Took.{Took}
+use Rattle.operands.specs.declared.Took.the-variants as took
+use Rattle.operands.specs.declared.Operands.{Operands}
+use Rattle.operands.specs.declared.Operands.the-variants as operands
+
+-- an operand, over the registers that it leaves
+abbrev pub spotAs : Spot → Registers → Tried Operand
+spotAs (spot.Immediate z) r = at (immediate z) r
+spotAs (spot.Register x) r = at (register x) r
+spotAs (spot.Memory a) r = at (memory a) r
+spotAs (spot.Alarm n x) r = alarm n x
+
+-- an operand that is a register is one of the sixteen
+abbrev pub SmallSpot : Spot → Type 0
+SmallSpot (spot.Immediate z) = Unit {0}
+SmallSpot (spot.Register x) = x < 16
+SmallSpot (spot.Memory a) = Unit {0}
+SmallSpot (spot.Alarm n x) = Unit {0}
+
+-- a place behind the word w, over any registers
+pub record Behind (p : Spot) (w : Got) (more : ℕ) : Type 0 where
+  pub same : (r : Registers) → spotAs p r ≡ gotAs w >>= (λ a. at (memory (virtual (a + more))) r)
+  pub small : SmallSpot p
+
+-- form and address of an operand, from its fields
+abbrev pub formed : View → ℕ → ℕ → Registers → Fields → Tried Operand
+formed v place L r k = pick (keepsRules L k) (byForm v L r k) (alarm 14 place)
+
+-- the value of an operand
+abbrev pub valueFrom : View → ℕ → Tried Operand → Tried ℕ
+valueFrom v L p = p >>= (λ o. valueIn v L (o .registers) (o .location))
+
+abbrev pub takenWith : Tried ℕ → Target → Tried Taken
+takenWith v t = v >>= (λ n. taken n t)
+
+-- what a role takes from an operand
+abbrev pub takenFrom : View → ℕ → ℕ → Role → Tried Operand → Tried Taken
+takenFrom v place L k p = p >>= (λ o. takenBy v place L o k)
+
+abbrev pub tookAs : Took → Tried Taken
+tookAs (took.Got n t) = taken n t
+tookAs (took.Alarm n x) = alarm n x
+
+-- so is a target
+abbrev pub SmallTarget : Target → Type 0
+SmallTarget target.Nowhere = Unit {0}
+SmallTarget (target.Register x) = x < 16
+SmallTarget (target.Memory a) = Unit {0}
+
+abbrev pub SmallTook : Took → Type 0
+SmallTook (took.Got n t) = SmallTarget t
+SmallTook (took.Alarm n x) = Unit {0}
+
+-- over any registers and view
+pub record TakesAddress (t : Took) (place : ℕ) (p : Spot) : Type 0 where
+  pub same : (v : View) (L : ℕ) (r : Registers) → tookAs t ≡ takenFrom v place L Address (spotAs p r)
+
+pub record TakesDestination (t : Took) (place : ℕ) (p : Spot) : Type 0 where
+  pub same : (v : View) (L : ℕ) (r : Registers) → tookAs t ≡ takenFrom v place L Destination (spotAs p r)
+
+abbrev pub operandsAs : Operands → Registers → Tried Given
+operandsAs (operands.Ready a b t) r = got (record { first = a; second = b; target = t; registers = r })
+operandsAs (operands.Alarm n x) r = alarm n x
+
+abbrev pub SmallOperands : Operands → Type 0
+SmallOperands (operands.Ready a b t) = SmallTarget t
+SmallOperands (operands.Alarm n x) = Unit {0}
