@@ -1,14 +1,15 @@
 -- Facts of a byte from what antt computes of the table: equal values at each byte of an interval, and no command between the rows. Assumes nothing.
 use Prim.Native.Nat.{ℕ, zero, suc, _+_, _≤_, _<_}
 use mathlib.Core.Path.{_≡_, refl}
-use mathlib.Core.Bool.{Bool, true, false, _&&_, _||_, false≢true, and-false}
+use mathlib.Core.Bool.{Bool, true, false, _&&_, _||_, and-false}
 use mathlib.Core.List.{List, [], _∷_}
-use mathlib.Core.Logic.{_⊎_, inl, inr, ⊎-elim}
+use mathlib.Core.Logic.{⊎-elim}
 use mathlib.Core.Option.{none}
 use native.Mathlib.Omega.{arith}
 use native.Mathlib.Decide.{ℕ-discrete}
-use borrow.Author.Tests.{leb-true, le-ltb, lt-leb, ne-eqb}
-use lib.Dec.{ltb, leb}
+use borrow.Author.Tests.{le-ltb, lt-leb, ne-eqb}
+use lib.Dec.{T, ltb, leb, leb→le}
+use mir.Facts.{and-yes, or-yes}
 use Rattle.mi.specs.Code.{Row, one, sized, knownIn}
 
 -- ---- Equal values
@@ -24,41 +25,33 @@ same f g (suc k) n e b h l = elim (ℕ-discrete n b) [ yes p ↦ rw (← p) (cc)
 
 -- ---- No command
 
--- b is none of the bytes that are a row of their own, and N
+-- N, and b is none of the bytes that are a row alone
 abbrev pub NoneOf : List Row → Type 0 → ℕ → Type 0
 NoneOf [] N b = N
 NoneOf (one n c os ∷ rows) N b = NoneOf rows (N × (b ≡ n → ⊥)) b
 NoneOf (sized n c os ∷ rows) N b = NoneOf rows N b
 
--- no number from lo on, below hi, is in a row of three bytes
+-- no row of three bytes has a number from lo on, below hi
 abbrev pub between : List Row → ℕ → ℕ → Bool
 between [] lo hi = true
 between (one n c os ∷ rows) lo hi = between rows lo hi
 between (sized n c os ∷ rows) lo hi = (leb (n + 3) lo || leb hi n) && between rows lo hi
 
-either : (s t : Bool) → (s || t) ≡ true → (s ≡ true) ⊎ (t ≡ true)
-either true t e = inl refl
-either false t e = inr e
-
-both : (s t : Bool) → (s && t) ≡ true → (s ≡ true) × (t ≡ true)
-both true t e = (refl, e)
-both false t e = absurd (false≢true e)
-
 module _ (lo hi b : ℕ) (l : lo ≤ b) (h : b < hi) where
-  outside : (n : ℕ) → (leb (n + 3) lo || leb hi n) ≡ true → (leb n b && ltb b (n + 3)) ≡ false
-  outside n e =
+  outside : (n : ℕ) → T (leb (n + 3) lo || leb hi n) → (leb n b && ltb b (n + 3)) ≡ false
+  outside n t =
       ⊎-elim
-      (λ p. rw (le-ltb b (n + 3) (omega (arith, leb-true))) (and-false (leb n b)))
-      (λ p. rw (lt-leb n b (omega (arith, leb-true))))
-      (either (leb (n + 3) lo) (leb hi n) e)
+      (λ p. rw (le-ltb b (n + 3) (omega (arith, leb→le))) (and-false (leb n b)))
+      (λ p. rw (lt-leb n b (omega (arith, leb→le))))
+      (or-yes (leb (n + 3) lo) (leb hi n) t)
 
-  pub unknown : (rows : List Row) → between rows lo hi ≡ true → (N : Type 0) → NoneOf rows N b → N × (knownIn rows b ≡ none)
+  pub unknown : (rows : List Row) → T (between rows lo hi) → (N : Type 0) → NoneOf rows N b → N × (knownIn rows b ≡ none)
   unfolding knownIn
-  unknown [] e N p = (p, refl)
-  unknown (one n c os ∷ rows) e N p =
-      let q = unknown rows e (N × (b ≡ n → ⊥)) p in
+  unknown [] t N p = (p, refl)
+  unknown (one n c os ∷ rows) t N p =
+      let q = unknown rows t (N × (b ≡ n → ⊥)) p in
       (q .0 .0, rw (ne-eqb b n (q .0 .1)) (q .1))
-  unknown (sized n c os ∷ rows) e N p =
-      let t = both (leb (n + 3) lo || leb hi n) (between rows lo hi) e in
-      let q = unknown rows (t .1) N p in
-      (q .0, rw (outside n (t .0)) (q .1))
+  unknown (sized n c os ∷ rows) t N p =
+      let s = and-yes (leb (n + 3) lo || leb hi n) (between rows lo hi) t in
+      let q = unknown rows (s .1) N p in
+      (q .0, rw (outside n (s .0)) (q .1))

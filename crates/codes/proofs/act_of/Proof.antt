@@ -1,7 +1,7 @@
 -- `codes::act_of`: each arm's bytes are those of its command's rows, and the bytes that no arm names lie in no row. Assumes nothing.
 use Prim.Native.Nat.{ℕ, _+_, _%_, _≤_, _<_}
 use mathlib.Core.Path.{_≡_, refl}
-use mathlib.Core.Bool.{true}
+use lib.Dec.{T}
 use mathlib.Core.Logic.{_⊎_, ⊎-elim}
 use native.Mathlib.Nat.{zero-mod, mod-eq-of-lt}
 use native.Mathlib.Omega.{arith}
@@ -40,9 +40,9 @@ row k n c e p = rw (c .size-at .ensures) (same (act (c .before)) (λ b. does (c 
 rows : {A B : Type 0} (k : Size → Common) (n : ℕ) (c : tie.After-size-at) → Row (c .before) k n → Row (c .before) k (n + 4) → (A → Within (c .before) n (n + 3)) → (B → Within (c .before) (n + 4) (n + 4 + 3)) → A ⊎ B → act (c .before) (c .before .args .b) ≡ does (c .before) (k (c .size-at .result))
 rows k n c e f p q = ⊎-elim (λ a. row k n c e (p a)) (λ a. row k (n + 4) c f (q a))
 
-gap : (lo hi : ℕ) (c : tie.At-match-rest) → between table lo hi ≡ true → Within (c .before .before) lo hi → Alarm 12 (c .before .before .args .b) ≡ act (c .before .before) (c .before .before .args .b)
+gap : (lo hi : ℕ) (c : tie.At-match-rest) → T (between table lo hi) → Within (c .before .before) lo hi → Alarm 12 (c .before .before .args .b) ≡ act (c .before .before) (c .before .before .args .b)
 unfolding actOf known table
-gap lo hi c e p = rw (unknown lo hi (c .before .before .args .b) (p .0) (p .1) table e Unit (c .match .rest) .1)
+gap lo hi c t p = rw (unknown lo hi (c .before .before .args .b) (p .0) (p .1) table t Unit (c .match .rest) .1)
 
 word : {n : ℕ} → Fits w32 n → natural 4 n ≡ n
 word f = mod-eq-of-lt (f .fits)
@@ -119,23 +119,23 @@ act-of-spec =
     (λ c. simp (c .and-not .ensures, rows (result ANDNOT) 0x30 (c .before .before .before .before .before) refl refl (λ w. omega arith) (λ w. omega arith) (c .before .if12 .came)))
     (λ c. simp (c .or .ensures, rows (result OR) 0x28 (c .before .before .before .before) refl refl (λ w. omega arith) (λ w. omega arith) (c .before .if2 .came)))
     -- the unknown bytes
-    (λ c. gap 0x00 0x10 (c .before .before .before .before) refl (omega arith))
-    (λ c. gap 0x13 0x14 (c .before .before .before .before .before .before) refl (omega arith))
-    (λ c. gap 0x17 0x18 (c .before .before .before .before .before .before .before) refl (omega arith))
-    (λ c. gap 0x1B 0x1C (c .before .before .before .before .before) refl (omega arith))
-    (λ c. gap 0x1F 0x28 (c .before .before .before .before .before .before .before) refl (omega arith))
-    (λ c. gap 0x2B 0x2C (c .before .before .before .before) refl (omega arith))
-    (λ c. gap 0x2F 0x30 (c .before .before .before .before .before .before) refl (omega arith))
-    (λ c. gap 0x33 0x34 (c .before .before .before .before .before .before .before) refl (omega arith))
-    (λ c. gap 0x37 0x38 (c .before .before .before .before .before) refl (omega arith))
-    (λ c. gap 0x3B 0x3C (c .before .before .before .before .before .before .before) refl (omega arith))
-    (λ c. gap 0x3F 0x40 (c .before .before .before .before) refl (omega arith))
-    (λ c. gap 0x43 0x44 (c .before .before .before .before .before .before) refl (omega arith))
-    (λ c. gap 0x47 0x48 (c .before .before .before .before .before .before .before) refl (omega arith))
-    (λ c. gap 0x4B 0x4C (c .before .before .before .before .before) refl (omega arith))
-    (λ c. gap 0x4F 0x50 (c .before .before .before .before .before .before .before) refl (omega arith))
-    (λ c. gap 0x53 0x54 (c .before .before .before) refl (omega arith))
-    (λ c. gap 0x57 0x58 (c .before .before .before .before .before) refl (omega arith))
-    (λ c. gap 0x5B 0x5C (c .before .before .before .before .before .before .before) refl (omega arith))
-    (λ c. gap 0x5F 0x64 (c .before .before .before .before .before .before .before .before .before) refl (omega arith))
-    (λ c. gap 0x67 0x1_0000_0000 (c .before .before .before .before .before .before .before .before .before .before) refl (omega arith)))
+    (λ c. gap 0x00 0x10 (c .before .before .before .before) tt (omega arith))
+    (λ c. gap 0x13 0x14 (c .before .before .before .before .before .before) tt (omega arith))
+    (λ c. gap 0x17 0x18 (c .before .before .before .before .before .before .before) tt (omega arith))
+    (λ c. gap 0x1B 0x1C (c .before .before .before .before .before) tt (omega arith))
+    (λ c. gap 0x1F 0x28 (c .before .before .before .before .before .before .before) tt (omega arith))
+    (λ c. gap 0x2B 0x2C (c .before .before .before .before) tt (omega arith))
+    (λ c. gap 0x2F 0x30 (c .before .before .before .before .before .before) tt (omega arith))
+    (λ c. gap 0x33 0x34 (c .before .before .before .before .before .before .before) tt (omega arith))
+    (λ c. gap 0x37 0x38 (c .before .before .before .before .before) tt (omega arith))
+    (λ c. gap 0x3B 0x3C (c .before .before .before .before .before .before .before) tt (omega arith))
+    (λ c. gap 0x3F 0x40 (c .before .before .before .before) tt (omega arith))
+    (λ c. gap 0x43 0x44 (c .before .before .before .before .before .before) tt (omega arith))
+    (λ c. gap 0x47 0x48 (c .before .before .before .before .before .before .before) tt (omega arith))
+    (λ c. gap 0x4B 0x4C (c .before .before .before .before .before) tt (omega arith))
+    (λ c. gap 0x4F 0x50 (c .before .before .before .before .before .before .before) tt (omega arith))
+    (λ c. gap 0x53 0x54 (c .before .before .before) tt (omega arith))
+    (λ c. gap 0x57 0x58 (c .before .before .before .before .before) tt (omega arith))
+    (λ c. gap 0x5B 0x5C (c .before .before .before .before .before .before .before) tt (omega arith))
+    (λ c. gap 0x5F 0x64 (c .before .before .before .before .before .before .before .before .before) tt (omega arith))
+    (λ c. gap 0x67 0x1_0000_0000 (c .before .before .before .before .before .before .before .before .before .before) tt (omega arith)))
