@@ -1,11 +1,12 @@
--- The pending set: the level that is due, one level down at a time, and that a level fits beside the others. Assumes nothing.
-use Prim.Native.Nat.{ℕ, zero, suc, _+_, _-_, _*_, _/_, _%_, _^_, _<_}
-use mathlib.Core.Path.{_≡_, ap, _∙_}
-use mathlib.Core.Bool.{true, false, _&&_, and-false}
-use native.Mathlib.Nat.{div-lt-iff-lt-mul, add-div-right}
+-- The pending set: the level that is due, one level down at a time, that it is pending, and that a level fits beside the others. Assumes nothing.
+use Prim.Native.Nat.{ℕ, zero, suc, _+_, _-_, _*_, _/_, _%_, _^_, _≤_, _<_}
+use mathlib.Core.Path.{_≡_, refl, ap, _∙_}
+use mathlib.Core.Bool.{Bool, true, false, _&&_, and-false}
+use native.Mathlib.Nat.{zero-div, div-lt-iff-lt-mul, add-div-right}
+use native.Mathlib.Decide.{decLe}
 use native.Mathlib.Omega.{arith}
-use borrow.Author.Tests.{eq-eqb, ne-eqb}
-use lib.Dec.{ltb}
+use borrow.Author.Tests.{eq-eqb, ne-eqb, eqb-true}
+use lib.Dec.{ltb, eqb}
 use lib.Pow.{pow-pos, pow-add}
 use Rattle.mi.specs.Words.{pick}
 use Rattle.mi.specs.State.{isPending}
@@ -36,3 +37,27 @@ level-fits n k p h small free =
     let below : p / 2 ^ k < 2 * 2 ^ j = div-lt-iff-lt-mul (pow-pos k) .1 (rw size at small) in
     let room : (p + 2 ^ k) / 2 ^ k < 2 * 2 ^ j = rw (add-div-right p (pow-pos k)) (omega arith) in
     rw size (div-lt-iff-lt-mul (pow-pos k) .0 room)
+
+pub due-none : (k l : ℕ) → due k 0 l ≡ 0
+unfolding due isPending
+due-none zero l = refl
+due-none (suc k) l = rw (zero-div (2 ^ suc k)) (due-none k l)
+
+-- a level whose bit is set is no more than the set
+set-below : (p k : ℕ) → p / 2 ^ k % 2 ≡ 1 → 2 ^ k ≤ p
+set-below p k set = go (decLe (2 ^ k) p)
+  where
+    go : Dec (2 ^ k ≤ p) → 2 ^ k ≤ p
+    go (yes h) = h
+    go (no f) = let few : p / 2 ^ k < 1 = div-lt-iff-lt-mul (pow-pos k) .1 (omega arith) in absurd (omega arith)
+
+-- the level that is due is pending
+pub due-pending : (k p l : ℕ) → 0 < due k p l → 2 ^ due k p l ≤ p
+unfolding due isPending
+due-pending zero p l h = absurd (omega arith)
+due-pending (suc k) p l h = go (eqb (p / 2 ^ suc k % 2) 1) (ltb l (suc k)) refl (due-pending k p l) h
+  where
+    go : (b t : Bool) → eqb (p / 2 ^ suc k % 2) 1 ≡ b → (0 < due k p l → 2 ^ due k p l ≤ p) → 0 < pick (b && t) (suc k) (due k p l) → 2 ^ pick (b && t) (suc k) (due k p l) ≤ p
+    go true true e below g = set-below p (suc k) (eqb-true _ _ e)
+    go true false e below g = below g
+    go false t e below g = below g

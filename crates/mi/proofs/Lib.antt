@@ -18,3 +18,4 @@ pub mod UserCalls
 pub mod Near
 pub mod Isolation
 pub mod Premises
+pub mod Accepted

@@ -1,0 +1,90 @@
+-- Each way to end has its call.
+use Rattle.desk.proofs.Ending.{resume-quiet}
+use Rattle.desk.specs.Replies.{endedBy}
+use Rattle.mi.specs.Steps.{halt}
+use Rattle.mi.specs.Map.{commit}
+use borrow.Author.Needs.{needs}
+use Rattle.desk.proofs.conclude.Statement.{statement}
+use Rattle.desk.proofs.conclude.Tie as tie
+
+enum-known-out : tie.Need-enum-known-out
+enum-known-out c = search needs
+
+with-requires : tie.Need-with-requires
+with-requires c κs = search needs
+
+enum-known-out-2 : tie.Need-enum-known-out-2
+enum-known-out-2 c = search needs
+
+enter-requires : tie.Need-enter-requires
+enter-requires c κs = search needs
+
+enum-told : tie.Need-enum-told
+enum-told c = search needs
+
+with-requires-2 : tie.Need-with-requires-2
+with-requires-2 c κs = search needs
+
+enum-known-out-3 : tie.Need-enum-known-out-3
+enum-known-out-3 c = search needs
+
+resume-requires : tie.Need-resume-requires
+resume-requires c κs = search needs
+
+enum-known-out-4 : tie.Need-enum-known-out-4
+enum-known-out-4 c = search needs
+
+alarm-requires : tie.Need-alarm-requires
+alarm-requires c κs = search needs
+
+returns : tie.Need-returns
+unfolding endedBy
+returns c = simp (c .before .before .out .given .1, c .with .ensures)
+
+same-length : tie.Need-same-length
+same-length c = search needs
+
+returns-2 : tie.Need-returns-2
+unfolding endedBy
+returns-2 c = rw (c .before .before .before .before .before .out2 .given .1) (c .before .before .enter .ensures)
+
+returns-3 : tie.Need-returns-3
+unfolding endedBy halt commit
+returns-3 c = simp (c .before .enum-told .given .1, c .with2 .ensures)
+
+same-length-2 : tie.Need-same-length-2
+same-length-2 c = search needs
+
+returns-4 : tie.Need-returns-4
+unfolding endedBy
+returns-4 c = rw (c .before .before .before .out3 .given .1, resume-quiet, c .resume .ensures)
+
+same-length-3 : tie.Need-same-length-3
+same-length-3 c = search needs
+
+returns-5 : tie.Need-returns-5
+unfolding endedBy
+returns-5 c = rw (c .before .before .before .before .before .out4 .given .1) (c .before .before .alarm .ensures)
+
+pub conclude-spec : {M : Type 1} → statement M
+conclude-spec =
+    tie.close
+    (tie.spec
+    enum-known-out
+    with-requires
+    enum-known-out-2
+    enter-requires
+    enum-told
+    with-requires-2
+    enum-known-out-3
+    resume-requires
+    enum-known-out-4
+    alarm-requires
+    returns
+    same-length
+    returns-2
+    returns-3
+    same-length-2
+    returns-4
+    same-length-3
+    returns-5)

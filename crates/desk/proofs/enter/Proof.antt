@@ -1,0 +1,59 @@
+-- The system block names the new R15 and status; where that status is valid the registers are saved, and nothing changes where it is not.
+use Rattle.desk.proofs.Tests.{fails, holds}
+use Rattle.mi.specs.Steps.{stop, enterIf, concluded}
+use Rattle.mi.specs.Map.{commit}
+use Rattle.mi.specs.State.{systemBlockOf}
+use borrow.Author.Needs.{needs}
+use Rattle.desk.proofs.enter.Statement.{statement}
+use Rattle.desk.proofs.enter.Tie as tie
+
+entry-status-requires : tie.Need-entry-status-requires
+entry-status-requires c κs = search needs
+
+is-valid-kernel-requires : tie.Need-is-valid-kernel-requires
+is-valid-kernel-requires c κs = search needs
+
+stop-requires : tie.Need-stop-requires
+stop-requires c κs = search needs
+
+same-length : tie.Need-same-length
+same-length c = search needs
+
+returns : tie.Need-returns
+unfolding systemBlockOf commit stop enterIf concluded
+returns c = simp (c .stop .ensures, ← c .before .before .before .entry-status .ensures, fails (c .before .before .is-valid-kernel .ensures) (c .before .if1 .taken))
+
+entry-r15-requires : tie.Need-entry-r15-requires
+entry-r15-requires c κs = search needs
+
+save-requires : tie.Need-save-requires
+save-requires c κs = search needs
+
+array-write-work : tie.Need-array-write-work
+array-write-work c = search needs
+
+with-requires : tie.Need-with-requires
+with-requires c κs = search needs
+
+same-length-2 : tie.Need-same-length-2
+same-length-2 c = search needs
+
+returns-2 : tie.Need-returns-2
+unfolding systemBlockOf enterIf concluded
+returns-2 c = simp (c .with .ensures, c .before .before .before .save .ensures, ← c .before .before .before .before .before .before .before .before .before .before .before .entry-status .ensures, ← c .before .before .before .before .before .before .before .entry-r15 .ensures, holds (c .before .before .before .before .before .before .before .before .before .before .is-valid-kernel .ensures) (c .before .before .before .before .before .before .before .before .before .if1 .left))
+
+pub enter-spec : {M : Type 1} → statement M
+enter-spec =
+    tie.close
+    (tie.spec
+    entry-status-requires
+    is-valid-kernel-requires
+    stop-requires
+    same-length
+    returns
+    entry-r15-requires
+    save-requires
+    array-write-work
+    with-requires
+    same-length-2
+    returns-2)

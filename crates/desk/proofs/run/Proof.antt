@@ -1,0 +1,39 @@
+-- The refusals decide, and then the steps are made.
+use mathlib.Core.Path.{_≡_, sym, _∙_}
+use borrow.Author.Needs.{needs}
+use Rattle.desk.proofs.Turns.{refused-run, accepted-run}
+use Rattle.desk.proofs.run.Statement.{statement}
+use Rattle.desk.proofs.run.Tie as tie
+
+refusal-requires : tie.Need-refusal-requires
+refusal-requires c κs = search needs
+
+enum-known-q : tie.Need-enum-known-q
+enum-known-q c = search needs
+
+enum-told : tie.Need-enum-told
+enum-told c = search needs
+
+steps-requires : tie.Need-steps-requires
+steps-requires c κs = sym (c .before .before .before .refusal .ensures) ∙ c .before .enum-told .given .1
+
+returns : tie.Need-returns
+returns c = refused-run (c .before .before .before .before .before .args .d) _ _ _ (sym (c .before .before .before .refusal .ensures) ∙ c .before .q .given .1)
+
+same-length : tie.Need-same-length
+same-length c = search needs
+
+returns-2 : tie.Need-returns-2
+returns-2 c = c .before .before .steps .ensures ∙ accepted-run (c .before .before .before .before .before .before .before .before .args .d) _ _ (sym (c .before .before .before .before .before .before .refusal .ensures) ∙ c .before .before .before .before .enum-told .given .1)
+
+pub run-spec : {M : Type 1} → statement M
+run-spec =
+    tie.close
+    (tie.spec
+    refusal-requires
+    enum-known-q
+    enum-told
+    steps-requires
+    returns
+    same-length
+    returns-2)
