@@ -69,9 +69,9 @@ module _ (d : Desk) (m : Memory) where
   entered (suc k) r p c h = refl
 
   pub step-enters : (k : ℕ) → k ≡ interruptOf (d .status) (d .pending) → 0 < k
-      → shown (oneStep d m) m ≡ enteredBy d m (enters (16 + k) (d .registers) k (withoutLevel (d .pending) k))
+      → (s : Stepped) → s ≡ enteredBy d m (enters (16 + k) (d .registers) k (withoutLevel (d .pending) k)) → s ≡ shown (oneStep d m) m
   unfolding interruptOf oneStep userStep userCourse
-  step-enters k e h = go (userMode (d .status)) e
+  step-enters k e h s g = g ∙ sym (go (userMode (d .status)) e)
     where
       v : View
       v = viewOf d m
@@ -143,10 +143,10 @@ end-over d m (out.Resume a) w y k = rw k
 end-over d m (out.Alarm n x) w y k = rw k
 
 pub command-step : (d : Desk) (m : Memory) (o : Out) (w : Registers) (y : Memory) → interruptOf (d .status) (d .pending) ≡ 0
-    → outAs o w y ≡ execOf (d .status) (d .base) (d .entries) (d .registers) m → endedBy d y (outAs o w y) ≡ shown (oneStep d m) m
-command-step d m o w y none e =
+    → outAs o w y ≡ execOf (d .status) (d .base) (d .entries) (d .registers) m → (s : Stepped) → s ≡ endedBy d y (outAs o w y) → s ≡ shown (oneStep d m) m
+command-step d m o w y none e s g =
     let kept : Kept m (outAs o w y) = rw e (exec-kept (d .status) (d .base) (d .entries) (d .registers) m) in
-    end-over d m o w y kept ∙ ap (endedBy d m) e ∙ sym (step-ends d m none)
+    g ∙ end-over d m o w y kept ∙ ap (endedBy d m) e ∙ sym (step-ends d m none)
 
 -- ---- RESUME writes nothing
 

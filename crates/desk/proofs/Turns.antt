@@ -1,7 +1,8 @@
 -- An accepted desk: what the calls of a step rely on, and one step of a run. Assumes nothing.
-use Prim.Native.Nat.{ℕ, suc, _+_, _-_, _<_}
-use mathlib.Core.Path.{_≡_, sym, ap, subst, _∙_}
-use mathlib.Core.Bool.{true}
+use Prim.Native.Nat.{ℕ, suc, _+_, _-_, _≤_, _<_}
+use mathlib.Core.Path.{_≡_, refl, sym, ap, subst, _∙_}
+use mathlib.Core.Bool.{true, false}
+use native.Mathlib.Nat.{sub-zero}
 use native.Mathlib.Omega.{arith}
 use lib.ListN.{length}
 use Rattle.mi.specs.declared.Mark.{Mark}
@@ -16,7 +17,7 @@ use Rattle.mi.specs.State.{Registers, isRunning, withoutLevel, deskWith}
 use Rattle.mi.specs.Map.{commit}
 use Rattle.mi.specs.Steps.{enters, oneStep}
 use Rattle.mi.specs.Calls.{Stepped, Ran, ran, unchanged, unlessRefused, stepAnswerOf, stepOf, steppedOf, stepsOf, runUnless, runOf}
-use Rattle.mi.proofs.Accepted.{Passes, block-inside, length-whole, length-small, runs, step-lasts, steps-more}
+use Rattle.mi.proofs.Accepted.{Passes, passes, block-inside, length-whole, length-small, runs, step-lasts, steps-more, steps-stopped, steps-done}
 use Rattle.access.specs.Answers.{Fits}
 use Rattle.commands.specs.declared.Out.{Out}
 use Rattle.commands.specs.declared.Out.the-variants as out
@@ -65,46 +66,64 @@ going d r s = deskWith d r s (d .pending) Running
 gathered : (d : Desk) → isRunning (d .mark) ≡ true → d ≡ going d (d .registers) (d .status)
 gathered d e = ap (λ (k : Mark). deskWith d (d .registers) (d .status) (d .pending) k) (runs (d .mark) e)
 
-module _ (d : Desk) (n : ℕ) (p : Passes d n) where
-  pub going-passes : Passes (going d (d .registers) (d .status)) n
-  going-passes = subst (λ (x : Desk). Passes x n) (gathered d (p .mark)) p
+-- ---- A run of n steps, from a memory of that size, that comes to that goal
 
-  pub going-steps : (i k : ℕ) (m : Memory) (goal : Ran) → stepsOf i k d m ≡ goal → stepsOf i k (going d (d .registers) (d .status)) m ≡ goal
-  going-steps i k m goal e = subst (λ (x : Desk). stepsOf i k x m ≡ goal) (gathered d (p .mark)) e
+-- after k steps, with more to make
+pub record Midway (n k size : ℕ) (goal : Ran) (d : Desk) (m : Memory) : Type 0 where
+  pub same : length m ≡ size
+  pub passes : Passes d (length m)
+  pub steps : stepsOf (n - k) k d m ≡ goal
 
--- ---- One step of a run
-
--- a desk and memory after k + 1 of n steps, of a run that started with a memory of that size and comes to that goal
+-- after k steps, of which the last may have stopped the desk
 pub record After (n k size : ℕ) (goal : Ran) (d : Desk) (m : Memory) : Type 0 where
   pub same : length m ≡ size
-  pub steps : stepsOf (n - (k + 1)) (k + 1) d m ≡ goal
   pub lasts : isRunning (d .mark) ≡ true → Passes d (length m)
+  pub steps : stepsOf (n - k) k d m ≡ goal
 
-module _ (n k size : ℕ) (goal : Ran) (d : Desk) (m : Memory) (same : length m ≡ size) (p : Passes d (length m)) (so-far : stepsOf (n - k) k d m ≡ goal) (left : k < n) where
-  pub after : (r : StepReply) (y : Memory) → length y ≡ length m → stepped r y ≡ shown (oneStep d m) m → After n k size goal (r .desk) y
-  after r y long e =
+pub start : (n : ℕ) (d : Desk) (m : Memory) → stepAnswerOf d (length m) ≡ Accepted → Midway n 0 (length m) (stepsOf n 0 d m) (going d (d .registers) (d .status)) m
+start n d m e =
+    let p = passes d (length m) e in
+    subst (λ (x : Desk). Midway n 0 (length m) (stepsOf n 0 d m) x m) (gathered d (p .mark)) (record { same = refl; passes = p; steps = rw (sub-zero n) })
+
+module _ {n k size : ℕ} {goal : Ran} {d : Desk} {m : Memory} (a : After n k size goal d m) where
+  pub go-on : isRunning (d .mark) ≡ true → Midway n k size goal (going d (d .registers) (d .status)) m
+  go-on e = subst (λ (x : Desk). Midway n k size goal x m) (gathered d e) (record { same = a .same; passes = a .lasts e; steps = a .steps })
+
+  pub stopped : isRunning (d .mark) ≡ false → ran Accepted k d m ≡ goal
+  stopped e = sym (steps-stopped (n - k) k d m e) ∙ a .steps
+
+module _ {n k size : ℕ} {goal : Ran} {d : Desk} {m : Memory} (b : Midway n k size goal d m) where
+  pub finished : n ≤ k → ran Accepted k d m ≡ goal
+  finished h = sym (steps-done (n - k) k d m (omega arith)) ∙ b .steps
+
+  -- one step
+  after : k < n → (r : StepReply) (y : Memory) → length y ≡ length m → stepped r y ≡ shown (oneStep d m) m → After n (k + 1) size goal (r .desk) y
+  after left r y long e =
       let more : n - k ≡ suc (n - suc k) = omega arith in
       let one : k + 1 ≡ suc k = omega arith in
       let desk : r .desk ≡ oneStep d m .desk = ap (λ (s : Stepped). s .reply .desk) e in
       let memory : y ≡ commit (oneStep d m .writes) m = ap (λ (s : Stepped). s .memory) e in
       record {
-        same = long ∙ same;
-        steps = rw (desk, memory, one) (sym (steps-more d m p (n - suc k) k) ∙ rw more at so-far);
-        lasts = λ h. rw (desk, long) (step-lasts d m p (rw desk at h));
+        same = long ∙ b .same;
+        lasts = λ h. rw (desk, long) (step-lasts d m (b .passes) (rw desk at h));
+        steps = rw (desk, memory, one) (sym (steps-more d m (b .passes) (n - suc k) k) ∙ rw more at (b .steps));
       }
 
-  -- x is the desk gathered from the locals
-  module _ (x : Desk) (gathering : x ≡ d) (r : StepReply) where
-    pub after-level : (y : Memory) (level : ℕ) → length y ≡ length m → level ≡ interruptOf (d .status) (d .pending) → 0 < level
-        → stepped r y ≡ enteredBy x m (enters (16 + level) (x .registers) level (withoutLevel (x .pending) level)) → After n k size goal (r .desk) y
-    after-level y level long e h g = after r y long (rw gathering at g ∙ sym (step-enters d m level e h))
+  -- an interrupt; x is the desk gathered from the locals
+  pub after-level : k < n → {x : Desk} → x ≡ d → (r : StepReply) (y : Memory) (level : ℕ) → length y ≡ length m → level ≡ interruptOf (d .status) (d .pending) → 0 < level
+      → stepped r y ≡ enteredBy x m (enters (16 + level) (x .registers) level (withoutLevel (x .pending) level)) → After n (k + 1) size goal (r .desk) y
+  after-level left whole r y level long e h g = after left r y long (step-enters d m level e h _ (rw whole at g))
 
-    pub after-command : (o : Out) (w : Registers) (z y : Memory) → length y ≡ length m → interruptOf (d .status) (d .pending) ≡ 0
-        → outAs o w z ≡ execOf (d .status) (d .base) (d .entries) (d .registers) m → stepped r y ≡ endedBy x z (outAs o w z) → After n k size goal (r .desk) y
-    after-command o w z y long none e g = after r y long (rw gathering at g ∙ command-step d m o w z none e)
+  module _ (o : Out) (w : Registers) (z : Memory) (none : interruptOf (d .status) (d .pending) ≡ 0) (e : outAs o w z ≡ execOf (d .status) (d .base) (d .entries) (d .registers) m) where
+    -- a command and its conclusion
+    pub after-command : k < n → {x : Desk} → x ≡ d → (r : StepReply) (y : Memory) → length y ≡ length m → stepped r y ≡ endedBy x z (outAs o w z) → After n (k + 1) size goal (r .desk) y
+    after-command left whole r y long g = after left r y long (command-step d m o w z none e _ (rw whole at g))
 
-  -- a command that ended quietly
-  pub after-quiet : (o : Out) (t : ℕ) (w : Registers) (y : Memory) → o ≡ out.Done t → length y ≡ length m → interruptOf (d .status) (d .pending) ≡ 0
-      → outAs o w y ≡ execOf (d .status) (d .base) (d .entries) (d .registers) m → After n k size goal (deskWith d w t (d .pending) (d .mark)) y
-  unfolding endedBy
-  after-quiet o t w y done long none e = after (record { answer = stepAnswer.Done; desk = deskWith d w t (d .pending) (d .mark) }) y long (rw done at (command-step d m o w y none e))
+    -- a command that ended quietly
+    pub after-quiet : k < n → d .mark ≡ Running → (t : ℕ) → o ≡ out.Done t → length z ≡ length m → Midway n (k + 1) size goal (going d w t) z
+    unfolding endedBy
+    after-quiet left running t done long =
+        let r : StepReply = record { answer = stepAnswer.Done; desk = going d w t } in
+        let ended : stepped r z ≡ endedBy d z (outAs o w z) = rw (done, running) in
+        let a = after left r z long (command-step d m o w z none e _ ended) in
+        record { same = a .same; passes = a .lasts refl; steps = a .steps }

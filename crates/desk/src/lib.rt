@@ -6,8 +6,7 @@ ghost use lib.ListN.{length};
 ghost use Rattle.mi.specs.State.{allowedLength, validStatus, isPending, withLevel, withoutLevel, deskWith};
 ghost use Rattle.mi.specs.Steps.{enters, stop as stopOf, resume as resumeOf, oneStep};
 ghost use Rattle.mi.specs.Calls.{refusalNumber, zeroDesk, freshAnswer, freshOf, stepAnswerOf, steppedOf, requestedOf, stepsOf, runOf};
-ghost use Rattle.access.specs.Answers.{Fits};
-ghost use Rattle.commands.specs.Ends.{outAs, execOf};
+ghost use Rattle.commands.specs.Ends.{outAs};
 ghost use Rattle.desk.specs.Replies.{replyOf, stepped, shown, enteredBy, alarmedBy, endedBy, interruptOf, ranAs, Blocks};
 use commands::Out;
 use mi::Answer;
@@ -338,8 +337,7 @@ fn without_level(pending: u16, level: u32) -> u16
     requires { ⌜ (level ≤ 15) × (2 ^ level ≤ pending) ⌝ }
     ensures { λ r. ⌜ r ≡ withoutLevel pending level ⌝ }
 {
-    let bit = 1u32 << level;
-    (pending as u32 - bit) as u16
+    pending - (1u16 << level)
 }
 
 // The level that is due is entered and its pending bit cleared.
@@ -367,7 +365,24 @@ fn one_step(d: Desk, mem: &mut [u8]) -> StepReply
     conclude(d, mem, work, out)
 }
 
-// At most n steps, up to a stop. While commands end quietly, registers and status stay in locals.
+// The running desk with registers and status from locals.
+fn running(d: Desk, registers: [u32; 16], status: u32) -> Desk
+    ensures { λ r. ⌜ r ≡ deskWith d registers status (d .pending) Mark.Running ⌝ }
+{
+    with(d, registers, status, d.pending, Mark::Running)
+}
+
+fn ran(steps: u64, desk: Desk) -> RunReply
+    ensures { λ r. ⌜ r ≡ record { answer = Answer.Accepted; steps = steps; desk = desk } ⌝ }
+{
+    RunReply {
+        answer: Answer::Accepted,
+        steps,
+        desk,
+    }
+}
+
+// At most n steps, up to a stop. While commands end quietly, registers and status stay in locals; all else goes through the whole desk.
 fn steps(d: Desk, mem: &mut [u8], n: u64) -> RunReply
     requires { ⌜ stepAnswerOf d (length (now mem)) ≡ Answer.Accepted ⌝ }
     ensures { λ r. ⌜ ranAs r (now (mem .exit)) ≡ stepsOf n 0 d (now (mem .entry)) ⌝ }
@@ -380,8 +395,7 @@ fn steps(d: Desk, mem: &mut [u8], n: u64) -> RunReply
         count += 1;
         let level = interrupt(status, desk.pending);
         if 0 < level {
-            let whole = with(desk, regs, status, desk.pending, Mark::Running);
-            let reply = enter_level(whole, mem, level);
+            let reply = enter_level(running(desk, regs, status), mem, level);
             desk = reply.desk;
         } else {
             let saved = regs;
@@ -393,33 +407,20 @@ fn steps(d: Desk, mem: &mut [u8], n: u64) -> RunReply
                     continue;
                 }
                 _ => {
-                    let whole = with(desk, saved, status, desk.pending, Mark::Running);
-                    let reply = conclude(whole, mem, regs, out);
+                    let reply = conclude(running(desk, saved, status), mem, regs, out);
                     desk = reply.desk;
                 }
             }
         }
+        regs = desk.registers;
+        status = desk.status;
         let mark = desk.mark;
         match mark {
-            Mark::Running => {
-                regs = desk.registers;
-                status = desk.status;
-            }
-            Mark::Stopped(_) => {
-                return RunReply {
-                    answer: Answer::Accepted,
-                    steps: count,
-                    desk,
-                };
-            }
+            Mark::Running => {}
+            Mark::Stopped(_) => return ran(count, desk),
         }
     }
-    let end = with(desk, regs, status, desk.pending, Mark::Running);
-    RunReply {
-        answer: Answer::Accepted,
-        steps: count,
-        desk: end,
-    }
+    ran(count, running(desk, regs, status))
 }
 
 // ---- The calls

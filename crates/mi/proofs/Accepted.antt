@@ -1,26 +1,25 @@
 -- A step or run that is not refused: what that tells of the desk, and that the desk which an accepted step leaves is accepted or stopped. Assumes nothing.
-use Prim.Native.Nat.{ℕ, zero, suc, _+_, _-_, _*_, _/_, _%_, _^_, _≤_, _<_}
-use mathlib.Core.Path.{_≡_, refl, sym, ap, _∙_}
+use Prim.Native.Nat.{ℕ, zero, suc, _+_, _-_, _*_, _/_, _%_, _^_, _≤_}
+use mathlib.Core.Path.{_≡_, refl}
 use mathlib.Core.Bool.{Bool, true, false, not, _&&_}
-use mathlib.Core.List.{List, [], _∷_}
+use mathlib.Core.List.{List, _∷_}
 use native.Mathlib.Nat.{div-one, pow-suc}
 use native.Mathlib.Omega.{arith}
 use borrow.Author.Tests.{leb-true, eqb-true, eqb-false, not-true, ne-eqb}
-use lib.Dec.{ltb, leb, eqb}
+use lib.Dec.{leb, eqb}
 use lib.ListN.{length}
 use Rattle.mi.specs.declared.RealAddress.{RealAddress}
 use Rattle.mi.specs.declared.Mark.{Mark}
 use Rattle.mi.specs.declared.Mark.the-variants.{Running, Stopped}
 use Rattle.mi.specs.declared.Desk.{Desk}
 use Rattle.mi.specs.declared.Refusal.{Refusal}
-use Rattle.mi.specs.declared.Answer.{Answer}
-use Rattle.mi.specs.declared.Answer.the-variants.{Accepted, Refused}
+use Rattle.mi.specs.declared.Answer.the-variants.{Accepted}
 use Rattle.mi.specs.Words.{pick, Memory, wordAt}
-use Rattle.mi.specs.State.{Registers, allowedLength, userMode, levelOf, flagsOf, withFlags, validStatus, validUserStatus, validKernelStatus, isPending, withoutLevel, systemBlockOf, entryR15, entryStatus, blockFits, isRunning, deskWith}
+use Rattle.mi.specs.State.{Registers, allowedLength, userMode, levelOf, flagsOf, withFlags, validStatus, validUserStatus, validKernelStatus, isPending, withoutLevel, systemBlockOf, entryR15, entryStatus, blockFits, isRunning}
 use Rattle.mi.specs.Map.{Tried, got, alarm, View, viewOf, RealWrites, located, commit}
 use Rattle.mi.specs.Commands.{Done, Act, done, does, SystemCall, userCommand, KernelEffect, halts, resumes}
-use Rattle.mi.specs.Steps.{Outcome, Course, goesOn, enters, stop, halt, goOn, due, written, ofCommand, interrupted, userCourse, enterIf, concluded, userStep, resume, kernelWritten, ofKernelCommand, kernelStep, oneStep}
-use Rattle.mi.specs.Calls.{holds1, holds2, holds3, holds4, holds5, firstRefused, stepAnswerOf, unlessRefused, stepOf, Ran, ran, stepsOf}
+use Rattle.mi.specs.Steps.{Outcome, Course, enters, stop, halt, goOn, due, written, ofCommand, interrupted, userCourse, enterIf, concluded, userStep, resume, kernelWritten, ofKernelCommand, kernelStep, oneStep}
+use Rattle.mi.specs.Calls.{holds1, holds2, holds3, holds4, holds5, firstRefused, stepAnswerOf, unlessRefused, stepOf, ran, stepsOf}
 use Rattle.mi.proofs.Widths.{and-true}
 
 -- ---- Each refusal's test has nothing to refuse
@@ -53,7 +52,7 @@ pub accepted : (d : Desk) (n : ℕ) → Passes d n → stepAnswerOf d n ≡ Acce
 unfolding stepAnswerOf firstRefused
 accepted d n p = simp (p .length, p .system, p .control, p .map, p .state, p .mark)
 
--- ---- In plain numbers
+-- ---- What single tests tell
 
 pub block-inside : (a : RealAddress) (bytes n : ℕ) → blockFits a bytes n ≡ true → a .0 + bytes ≤ n
 unfolding blockFits

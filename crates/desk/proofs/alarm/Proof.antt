@@ -1,8 +1,8 @@
 -- The status tells the mode.
-use Rattle.mi.specs.Steps.{stop}
-use Rattle.mi.specs.Map.{commit}
 use borrow.Author.Tests.{lt-ltb, le-ltb}
 use borrow.Author.Needs.{needs}
+use Rattle.mi.specs.Steps.{stop}
+use Rattle.mi.specs.Map.{commit}
 use Rattle.desk.proofs.alarm.Statement.{statement}
 use Rattle.desk.proofs.alarm.Tie as tie
 

@@ -1,9 +1,9 @@
 -- Each way to end has its call.
-use Rattle.desk.proofs.Ending.{resume-quiet}
-use Rattle.desk.specs.Replies.{endedBy}
+use borrow.Author.Needs.{needs}
 use Rattle.mi.specs.Steps.{halt}
 use Rattle.mi.specs.Map.{commit}
-use borrow.Author.Needs.{needs}
+use Rattle.desk.specs.Replies.{endedBy}
+use Rattle.desk.proofs.Ending.{resume-quiet}
 use Rattle.desk.proofs.conclude.Statement.{statement}
 use Rattle.desk.proofs.conclude.Tie as tie
 

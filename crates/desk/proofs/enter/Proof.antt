@@ -1,9 +1,9 @@
 -- The system block names the new R15 and status; where that status is valid the registers are saved, and nothing changes where it is not.
-use Rattle.desk.proofs.Tests.{fails, holds}
+use borrow.Author.Needs.{needs}
 use Rattle.mi.specs.Steps.{stop, enterIf, concluded}
 use Rattle.mi.specs.Map.{commit}
 use Rattle.mi.specs.State.{systemBlockOf}
-use borrow.Author.Needs.{needs}
+use Rattle.desk.proofs.Tests.{fails, holds}
 use Rattle.desk.proofs.enter.Statement.{statement}
 use Rattle.desk.proofs.enter.Tie as tie
 
@@ -21,7 +21,9 @@ same-length c = search needs
 
 returns : tie.Need-returns
 unfolding systemBlockOf commit stop enterIf concluded
-returns c = simp (c .stop .ensures, ← c .before .before .before .entry-status .ensures, fails (c .before .before .is-valid-kernel .ensures) (c .before .if1 .taken))
+returns c =
+    let v = c .before .before in
+    simp (c .stop .ensures, ← v .before .entry-status .ensures, fails (v .is-valid-kernel .ensures) (c .before .if1 .taken))
 
 entry-r15-requires : tie.Need-entry-r15-requires
 entry-r15-requires c κs = search needs
@@ -40,7 +42,11 @@ same-length-2 c = search needs
 
 returns-2 : tie.Need-returns-2
 unfolding systemBlockOf enterIf concluded
-returns-2 c = simp (c .with .ensures, c .before .before .before .save .ensures, ← c .before .before .before .before .before .before .before .before .before .before .before .entry-status .ensures, ← c .before .before .before .before .before .before .before .entry-r15 .ensures, holds (c .before .before .before .before .before .before .before .before .before .before .is-valid-kernel .ensures) (c .before .before .before .before .before .before .before .before .before .if1 .left))
+returns-2 c =
+    let w = c .before .before .before in
+    let e = w .before .before .before .before in
+    let v = e .before .before .before in
+    simp (c .with .ensures, w .save .ensures, ← v .before .entry-status .ensures, ← e .entry-r15 .ensures, holds (v .is-valid-kernel .ensures) (e .before .before .if1 .left))
 
 pub enter-spec : {M : Type 1} → statement M
 enter-spec =

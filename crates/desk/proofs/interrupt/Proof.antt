@@ -1,9 +1,9 @@
 -- With nothing pending no level is due; in kernel mode none is entered.
-use mathlib.Core.Path.{_≡_, sym}
+use mathlib.Core.Path.{sym}
 use borrow.Author.Tests.{lt-ltb, le-ltb}
+use borrow.Author.Needs.{needs}
 use Rattle.desk.specs.Replies.{interruptOf}
 use Rattle.desk.proofs.Ending.{none-pending}
-use borrow.Author.Needs.{needs}
 use Rattle.desk.proofs.interrupt.Statement.{statement}
 use Rattle.desk.proofs.interrupt.Tie as tie
 

@@ -1,11 +1,11 @@
 -- A level that is due is entered; with none due the command's end is concluded.
-use Rattle.desk.specs.Replies.{interruptOf}
-use Rattle.desk.proofs.Turns.{blocks, map-fits}
-use Rattle.desk.proofs.Ending.{step-enters, level-pending, command-step}
-use Rattle.mi.proofs.Accepted.{passes}
+use mathlib.Core.Path.{_≡_, refl}
 use native.Mathlib.Omega.{arith}
-use mathlib.Core.Path.{_≡_, refl, sym, _∙_}
 use borrow.Author.Needs.{needs}
+use Rattle.mi.proofs.Accepted.{passes}
+use Rattle.desk.specs.Replies.{interruptOf}
+use Rattle.desk.proofs.Ending.{step-enters, level-pending, command-step}
+use Rattle.desk.proofs.Turns.{blocks, map-fits}
 use Rattle.desk.proofs.one_step.Statement.{statement}
 use Rattle.desk.proofs.one_step.Tie as tie
 
@@ -14,31 +14,39 @@ interrupt-requires c κs = search needs
 
 enter-level-requires : tie.Need-enter-level-requires
 enter-level-requires c κs =
-    let a = c .before .before .before .before in
-    (blocks _ _ _ refl (passes _ _ (a .pre)), c .before .before .interrupt .ensures .1, level-pending _ _ _ (c .before .before .interrupt .ensures .0) (c .before .if1 .taken))
+    let i = c .before .before in
+    (blocks _ _ _ refl (passes _ _ (i .before .before .pre)), i .interrupt .ensures .1, level-pending _ _ _ (i .interrupt .ensures .0) (c .before .if1 .taken))
 
 same-length : tie.Need-same-length
 same-length c = search needs
 
 returns : tie.Need-returns
 returns c =
-    let a = c .before .before .before .before .before .before .before .args in
-    c .before .before .enter-level .ensures ∙ sym (step-enters (a .d) (a .mem .now) _ (c .before .before .before .before .before .interrupt .ensures .0) (c .before .before .before .before .if1 .taken))
+    let b = c .before .before .before .before in
+    let i = b .before in
+    let a = i .before .before .args in
+    step-enters (a .d) (a .mem .now) _ (i .interrupt .ensures .0) (b .if1 .taken) _ (c .before .before .enter-level .ensures)
 
 exec-requires : tie.Need-exec-requires
-exec-requires c κs = map-fits (c .before .before .before .before .before .before .before .args .d) _ _ refl (passes _ _ (c .before .before .before .before .before .before .before .pre))
+exec-requires c κs =
+    let a = c .before .before .before .before .before .before .before in
+    map-fits (a .args .d) _ _ refl (passes _ _ (a .pre))
 
 conclude-requires : tie.Need-conclude-requires
-conclude-requires c κs = blocks _ _ _ (c .before .before .before .exec .kept .0) (passes _ _ (c .before .before .before .before .before .before .before .before .before .before .before .pre))
+conclude-requires c κs =
+    let x = c .before .before .before in
+    blocks _ _ _ (x .exec .kept .0) (passes _ _ (x .before .before .before .before .before .before .before .before .pre))
 
 same-length-2 : tie.Need-same-length-2
 same-length-2 c = search needs
 
 returns-2 : tie.Need-returns-2
 returns-2 c =
-    let a = c .before .before .before .before .before .before .before .before .before .before .before .before .before .before .args in
-    let none : interruptOf (a .d .status) (a .d .pending) ≡ 0 = omega (arith, c .before .before .before .before .before .before .before .before .before .before .before .before .interrupt .ensures .0) in
-    c .before .before .conclude .ensures ∙ command-step (a .d) (a .mem .now) (c .before .before .before .before .before .before .exec .result) _ _ none (c .before .before .before .before .before .before .exec .ensures)
+    let x = c .before .before .before .before .before .before in
+    let i = x .before .before .before .before .before .before in
+    let a = i .before .before .args in
+    let none : interruptOf (a .d .status) (a .d .pending) ≡ 0 = omega (arith, i .interrupt .ensures .0) in
+    command-step (a .d) (a .mem .now) (x .exec .result) _ _ none (x .exec .ensures) _ (c .before .before .conclude .ensures)
 
 pub one-step-spec : {M : Type 1} → statement M
 one-step-spec =

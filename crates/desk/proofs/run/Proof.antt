@@ -1,5 +1,5 @@
 -- The refusals decide, and then the steps are made.
-use mathlib.Core.Path.{_≡_, sym, _∙_}
+use mathlib.Core.Path.{sym, _∙_}
 use borrow.Author.Needs.{needs}
 use Rattle.desk.proofs.Turns.{refused-run, accepted-run}
 use Rattle.desk.proofs.run.Statement.{statement}
@@ -18,13 +18,17 @@ steps-requires : tie.Need-steps-requires
 steps-requires c κs = sym (c .before .before .before .refusal .ensures) ∙ c .before .enum-told .given .1
 
 returns : tie.Need-returns
-returns c = refused-run (c .before .before .before .before .before .args .d) _ _ _ (sym (c .before .before .before .refusal .ensures) ∙ c .before .q .given .1)
+returns c =
+    let q = c .before .before .before in
+    refused-run (q .before .before .args .d) _ _ _ (sym (q .refusal .ensures) ∙ c .before .q .given .1)
 
 same-length : tie.Need-same-length
 same-length c = search needs
 
 returns-2 : tie.Need-returns-2
-returns-2 c = c .before .before .steps .ensures ∙ accepted-run (c .before .before .before .before .before .before .before .before .args .d) _ _ (sym (c .before .before .before .before .before .before .refusal .ensures) ∙ c .before .before .before .before .enum-told .given .1)
+returns-2 c =
+    let q = c .before .before .before .before .before .before in
+    c .before .before .steps .ensures ∙ accepted-run (q .before .before .args .d) _ _ (sym (q .refusal .ensures) ∙ c .before .before .before .before .enum-told .given .1)
 
 pub run-spec : {M : Type 1} → statement M
 run-spec =

@@ -1,7 +1,7 @@
 -- The refusals decide, and then the step is made.
-use Rattle.desk.proofs.Turns.{refused-step, accepted-step}
-use mathlib.Core.Path.{_≡_, sym, _∙_}
+use mathlib.Core.Path.{sym, _∙_}
 use borrow.Author.Needs.{needs}
+use Rattle.desk.proofs.Turns.{refused-step, accepted-step}
 use Rattle.desk.proofs.step.Statement.{statement}
 use Rattle.desk.proofs.step.Tie as tie
 
@@ -18,13 +18,17 @@ one-step-requires : tie.Need-one-step-requires
 one-step-requires c κs = sym (c .before .before .before .refusal .ensures) ∙ c .before .enum-told .given .1
 
 returns : tie.Need-returns
-returns c = refused-step (c .before .before .before .before .before .args .d) _ _ (sym (c .before .before .before .refusal .ensures) ∙ c .before .q .given .1)
+returns c =
+    let q = c .before .before .before in
+    refused-step (q .before .before .args .d) _ _ (sym (q .refusal .ensures) ∙ c .before .q .given .1)
 
 same-length : tie.Need-same-length
 same-length c = search needs
 
 returns-2 : tie.Need-returns-2
-returns-2 c = c .before .before .one-step .ensures ∙ accepted-step (c .before .before .before .before .before .before .before .before .args .d) _ (sym (c .before .before .before .before .before .before .refusal .ensures) ∙ c .before .before .before .before .enum-told .given .1)
+returns-2 c =
+    let q = c .before .before .before .before .before .before in
+    c .before .before .one-step .ensures ∙ accepted-step (q .before .before .args .d) _ (sym (q .refusal .ensures) ∙ c .before .before .before .before .enum-told .given .1)
 
 pub step-spec : {M : Type 1} → statement M
 step-spec =

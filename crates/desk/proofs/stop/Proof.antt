@@ -1,6 +1,6 @@
 -- Only the mark changes.
-use Rattle.mi.specs.Steps.{stop}
 use borrow.Author.Needs.{needs}
+use Rattle.mi.specs.Steps.{stop}
 use Rattle.desk.proofs.stop.Statement.{statement}
 use Rattle.desk.proofs.stop.Tie as tie
 
