@@ -291,20 +291,25 @@ fn alarm(d: Desk, mem: &mut [u8], n: u32, x: u32) -> StepReply
     stop(d, n)
 }
 
+// A command that ended quietly changes registers and status.
+fn done(d: Desk, registers: [u32; 16], status: u32) -> StepReply
+    ensures { λ r. ⌜ r ≡ record { answer = StepAnswer.Done; desk = deskWith d registers status (d .pending) (d .mark) } ⌝ }
+{
+    let mark = d.mark;
+    let desk = with(d, registers, status, d.pending, mark);
+    StepReply {
+        answer: StepAnswer::Done,
+        desk,
+    }
+}
+
 // What becomes of a command of desk d that ended so, with these registers.
 fn conclude(d: Desk, mem: &mut [u8], work: [u32; 16], out: Out) -> StepReply
     requires { ⌜ Blocks d (now mem) ⌝ }
     ensures { λ r. ⌜ stepped r (now (mem .exit)) ≡ endedBy d (now (mem .entry)) (outAs out work (now (mem .entry))) ⌝ }
 {
     match out {
-        Out::Done(s) => {
-            let mark = d.mark;
-            let desk = with(d, work, s, d.pending, mark);
-            StepReply {
-                answer: StepAnswer::Done,
-                desk,
-            }
-        }
+        Out::Done(s) => done(d, work, s),
         Out::System(x) => enter(d, mem, 1, work, x, d.pending),
         Out::Halt => {
             let desk = with(d, work, d.status, d.pending, Mark::Stopped(0));
@@ -350,7 +355,7 @@ fn enter_level(d: Desk, mem: &mut [u8], level: u32) -> StepReply
     enter(d, mem, 16 + level, registers, level, left)
 }
 
-// One step.
+// The level that is due is entered, or a command is executed.
 fn one_step(d: Desk, mem: &mut [u8]) -> StepReply
     requires { ⌜ stepAnswerOf d (length (now mem)) ≡ Answer.Accepted ⌝ }
     ensures { λ r. ⌜ stepped r (now (mem .exit)) ≡ shown (oneStep d (now (mem .entry))) (now (mem .entry)) ⌝ }
@@ -362,7 +367,10 @@ fn one_step(d: Desk, mem: &mut [u8]) -> StepReply
     let mut work = d.registers;
     let base = d.base;
     let out = commands::exec(mem, &mut work, d.status, base, d.entries);
-    conclude(d, mem, work, out)
+    match out {
+        Out::Done(s) => done(d, work, s),
+        _ => conclude(d, mem, work, out),
+    }
 }
 
 // The running desk with registers and status from locals.

@@ -10,8 +10,8 @@ use Rattle.desk.proofs.conclude.Tie as tie
 enum-known-out : tie.Need-enum-known-out
 enum-known-out c = search needs
 
-with-requires : tie.Need-with-requires
-with-requires c κs = search needs
+done-requires : tie.Need-done-requires
+done-requires c κs = search needs
 
 enum-known-out-2 : tie.Need-enum-known-out-2
 enum-known-out-2 c = search needs
@@ -22,8 +22,8 @@ enter-requires c κs = search needs
 enum-told : tie.Need-enum-told
 enum-told c = search needs
 
-with-requires-2 : tie.Need-with-requires-2
-with-requires-2 c κs = search needs
+with-requires : tie.Need-with-requires
+with-requires c κs = search needs
 
 enum-known-out-3 : tie.Need-enum-known-out-3
 enum-known-out-3 c = search needs
@@ -39,7 +39,7 @@ alarm-requires c κs = search needs
 
 returns : tie.Need-returns
 unfolding endedBy
-returns c = simp (c .before .before .out .given .1, c .with .ensures)
+returns c = simp (c .before .before .out .given .1, c .done .ensures)
 
 same-length : tie.Need-same-length
 same-length c = search needs
@@ -50,7 +50,7 @@ returns-2 c = rw (c .before .before .before .before .before .out2 .given .1) (c 
 
 returns-3 : tie.Need-returns-3
 unfolding endedBy halt commit
-returns-3 c = simp (c .before .enum-told .given .1, c .with2 .ensures)
+returns-3 c = simp (c .before .enum-told .given .1, c .with .ensures)
 
 same-length-2 : tie.Need-same-length-2
 same-length-2 c = search needs
@@ -71,11 +71,11 @@ conclude-spec =
     tie.close
     (tie.spec
     enum-known-out
-    with-requires
+    done-requires
     enum-known-out-2
     enter-requires
     enum-told
-    with-requires-2
+    with-requires
     enum-known-out-3
     resume-requires
     enum-known-out-4

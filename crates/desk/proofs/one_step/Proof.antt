@@ -2,8 +2,11 @@
 use mathlib.Core.Path.{_≡_, refl}
 use native.Mathlib.Omega.{arith}
 use borrow.Author.Needs.{needs}
+use Rattle.mi.specs.Steps.{oneStep}
+use Rattle.mi.specs.Calls.{Stepped}
 use Rattle.mi.proofs.Accepted.{passes}
-use Rattle.desk.specs.Replies.{interruptOf}
+use Rattle.commands.specs.Ends.{outAs}
+use Rattle.desk.specs.Replies.{shown, endedBy, interruptOf}
 use Rattle.desk.proofs.Ending.{step-enters, level-pending, command-step}
 use Rattle.desk.proofs.Turns.{blocks, map-fits}
 use Rattle.desk.proofs.one_step.Statement.{statement}
@@ -32,21 +35,38 @@ exec-requires c κs =
     let a = c .before .before .before .before .before .before .before in
     map-fits (a .args .d) _ _ refl (passes _ _ (a .pre))
 
+enum-known-out : tie.Need-enum-known-out
+enum-known-out c = search needs
+
+done-requires : tie.Need-done-requires
+done-requires c κs = search needs
+
 conclude-requires : tie.Need-conclude-requires
 conclude-requires c κs =
-    let x = c .before .before .before in
+    let x = c .before .before .before .before in
     blocks _ _ _ (x .exec .kept .0) (passes _ _ (x .before .before .before .before .before .before .before .before .pre))
+
+-- no level is due, so the command's end is the step
+ended : (c : tie.After-exec) (s : Stepped) → let a = c .before .before .before .before .before .before .before .before .args in
+    s ≡ endedBy (a .d) (c .exec .last .0) (outAs (c .exec .result) (c .exec .last .1 .0) (c .exec .last .0)) → s ≡ shown (oneStep (a .d) (a .mem .now)) (a .mem .now)
+ended c s =
+    let i = c .before .before .before .before .before .before in
+    let a = i .before .before .args in
+    let none : interruptOf (a .d .status) (a .d .pending) ≡ 0 = omega (arith, i .interrupt .ensures .0) in
+    command-step (a .d) (a .mem .now) (c .exec .result) _ _ none (c .exec .ensures) s
 
 same-length-2 : tie.Need-same-length-2
 same-length-2 c = search needs
 
 returns-2 : tie.Need-returns-2
-returns-2 c =
-    let x = c .before .before .before .before .before .before in
-    let i = x .before .before .before .before .before .before in
-    let a = i .before .before .args in
-    let none : interruptOf (a .d .status) (a .d .pending) ≡ 0 = omega (arith, i .interrupt .ensures .0) in
-    command-step (a .d) (a .mem .now) (x .exec .result) _ _ none (x .exec .ensures) _ (c .before .before .conclude .ensures)
+unfolding endedBy
+returns-2 c = ended (c .before .before .before .before .before .before) _ (rw (c .before .before .out .given .1, c .done .ensures))
+
+same-length-3 : tie.Need-same-length-3
+same-length-3 c = search needs
+
+returns-3 : tie.Need-returns-3
+returns-3 c = ended (c .before .before .before .before .before .before .before) _ (c .before .before .conclude .ensures)
 
 pub one-step-spec : {M : Type 1} → statement M
 one-step-spec =
@@ -57,6 +77,10 @@ one-step-spec =
     same-length
     returns
     exec-requires
+    enum-known-out
+    done-requires
     conclude-requires
     same-length-2
-    returns-2)
+    returns-2
+    same-length-3
+    returns-3)
