@@ -1,5 +1,5 @@
 -- How the operand rules of a command byte are written as one number, and what they are. Assumes nothing.
-use Prim.Native.Nat.{ℕ, zero, suc, _/_, _%_}
+use Prim.Native.Nat.{ℕ, zero, suc, _+_, _*_, _/_, _%_}
 use mathlib.Core.Bool.{Bool, _||_}
 use mathlib.Core.List.{List, [], _∷_}
 use mathlib.Core.Option.{Option, none, some}
@@ -10,7 +10,7 @@ use Rattle.mi.specs.declared.Role.{Role}
 use Rattle.mi.specs.declared.Role.the-variants.{Value, Address, Destination, Update}
 use Rattle.mi.specs.Words.{pick}
 use Rattle.mi.specs.State.{userMode}
-use Rattle.mi.specs.Code.{Rule, Known}
+use Rattle.mi.specs.Code.{Rule, Known, known}
 
 -- four bits an operand, the first operand lowest: its size in the low two, 1 for B, 2 for H, 3 for W, and its role in the high two; 0 ends the list.
 
@@ -33,6 +33,34 @@ rulesIn n = rulesFrom 4 n
 abbrev pub knownRules : Option Known → List Rule
 knownRules none = []
 knownRules (some k) = k .operands
+
+-- ---- The table: the rules of each byte up to the last known one, as such numbers
+
+abbrev pub sizeNumber : Size → ℕ
+sizeNumber B = 1
+sizeNumber H = 2
+sizeNumber W = 3
+
+abbrev pub roleNumber : Role → ℕ
+roleNumber Value = 0
+roleNumber Address = 4
+roleNumber Destination = 8
+roleNumber Update = 12
+
+abbrev pub rulesNumber : List Rule → ℕ
+rulesNumber [] = 0
+rulesNumber (r ∷ rs) = sizeNumber (r .size) + roleNumber (r .role) + 16 * rulesNumber rs
+
+-- of k bytes from b on
+unfoldable pub numbersFrom : ℕ → ℕ → List ℕ
+numbersFrom zero b = []
+numbersFrom (suc k) b = rulesNumber (knownRules (known b)) ∷ numbersFrom k (suc b)
+
+-- 0x7A is the last
+unfoldable pub tableOf : List ℕ
+tableOf = numbersFrom 123 0
+
+-- ---- The mode
 
 -- 13: "HALT or RESUME in user mode, or a system call in kernel mode"
 abbrev pub forbiddenOf : ℕ → ℕ → Bool

@@ -5,7 +5,7 @@ ghost use Rattle.mi.specs.Words.{lengthOf, sizeAt};
 ghost use Rattle.mi.specs.State.{flagN, flagZ, flagV, flagC};
 ghost use Rattle.mi.specs.Code.{known, DIV};
 ghost use Rattle.mi.specs.Integers.{natural, operate};
-ghost use Rattle.codes.specs.Rules.{sizeIn, roleIn, rulesIn, knownRules, forbiddenOf};
+ghost use Rattle.codes.specs.Rules.{sizeIn, roleIn, rulesIn, knownRules, tableOf, forbiddenOf};
 ghost use Rattle.codes.specs.Acts.{given, actOf};
 use mi::Result;
 use mi::Role;
@@ -122,8 +122,8 @@ pub fn act_of(b: u32, f: u32, x: u32, y: u32) -> Act
 // ---- The constant table: operand count, sizes and roles of each command byte
 
 // Four bits an operand, the first lowest: 1 for B, 2 for H, 3 for W, and 0 for a value, 4 for an address, 8 for a destination, 12 for an update. An unknown
-// byte has none.
-const RULES: [u16; 256] = [
+// byte has none, and from 0x7B on all are unknown.
+const RULES: [u16; 123] = [
     0x000, // 0x00: HALT, PUSHR, POPR, system call
     0x000,
     0x000,
@@ -247,148 +247,24 @@ const RULES: [u16; 256] = [
     0x007,
     0x007,
     0x000,
-    0x000,
-    0x000,
-    0x000,
-    0x000,
-    0x000,
-    0x000,
-    0x000,
-    0x000,
-    0x000,
-    0x000,
-    0x000,
-    0x000,
-    0x000,
-    0x000,
-    0x000,
-    0x000,
-    0x000,
-    0x000,
-    0x000,
-    0x000,
-    0x000,
-    0x000,
-    0x000,
-    0x000,
-    0x000,
-    0x000,
-    0x000,
-    0x000,
-    0x000,
-    0x000,
-    0x000,
-    0x000,
-    0x000,
-    0x000,
-    0x000,
-    0x000,
-    0x000,
-    0x000,
-    0x000,
-    0x000,
-    0x000,
-    0x000,
-    0x000,
-    0x000,
-    0x000,
-    0x000,
-    0x000,
-    0x000,
-    0x000,
-    0x000,
-    0x000,
-    0x000,
-    0x000,
-    0x000,
-    0x000,
-    0x000,
-    0x000,
-    0x000,
-    0x000,
-    0x000,
-    0x000,
-    0x000,
-    0x000,
-    0x000,
-    0x000,
-    0x000,
-    0x000,
-    0x000,
-    0x000,
-    0x000,
-    0x000,
-    0x000,
-    0x000,
-    0x000,
-    0x000,
-    0x000,
-    0x000,
-    0x000,
-    0x000,
-    0x000,
-    0x000,
-    0x000,
-    0x000,
-    0x000,
-    0x000,
-    0x000,
-    0x000,
-    0x000,
-    0x000,
-    0x000,
-    0x000,
-    0x000,
-    0x000,
-    0x000,
-    0x000,
-    0x000,
-    0x000,
-    0x000,
-    0x000,
-    0x000,
-    0x000,
-    0x000,
-    0x000,
-    0x000,
-    0x000,
-    0x000,
-    0x000,
-    0x000,
-    0x000,
-    0x000,
-    0x000,
-    0x000,
-    0x000,
-    0x000,
-    0x000,
-    0x000,
-    0x000,
-    0x000,
-    0x000,
-    0x000,
-    0x000,
-    0x000,
-    0x000,
-    0x000,
-    0x000,
-    0x000,
-    0x000,
-    0x000,
-    0x000,
-    0x000,
-    0x000,
-    0x000,
-    0x000,
 ];
 
-pub fn rules_of(b: u32) -> u32
-    requires { ⌜ b < 256 ⌝ }
+// The table, made once and lent to each command.
+pub fn table() -> [u16; 123]
+    ensures { λ r. ⌜ r ≡ tableOf ⌝ }
+{
+    RULES
+}
+
+pub fn rules_of(table: &[u16; 123], b: u32) -> u32
+    requires { ⌜ (now table ≡ tableOf) × (b < 256) ⌝ }
     ensures rules { λ r. ⌜ rulesIn r ≡ knownRules (known b) ⌝ }
     ensures small { λ r. ⌜ r < 65536 ⌝ }
 {
-    let i = b as usize;
-    RULES[i] as u32
+    if b < 123 {
+        return table[b as usize] as u32;
+    }
+    0
 }
 
 // 13: HALT or RESUME in user mode, or a system call in kernel mode.

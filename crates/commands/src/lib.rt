@@ -8,6 +8,7 @@ ghost use Rattle.mi.specs.State.{reg, flagsOf, withFlags, registersFrom};
 ghost use Rattle.mi.specs.Map.{got, viewBy};
 ghost use Rattle.mi.specs.Commands.{keptRest, stored, pushed, called};
 ghost use Rattle.access.specs.Answers.{Fits};
+ghost use Rattle.codes.specs.Rules.{tableOf};
 ghost use Rattle.operands.specs.Answers.{SmallTarget};
 ghost use Rattle.commands.specs.Ends.{outAs, doneEnd, poppedDone, returnedDone, actEnd, execOf, EndedAs};
 use access::Got;
@@ -224,15 +225,16 @@ fn finish(
     }
 }
 
-// The command at R15. Where it alarms the registers are of no account.
+// The command at R15, by the lent table of rules. Where it alarms the registers are of no account.
 pub fn exec(
     mem: &mut [u8],
     regs: &mut [u32; 16],
     status: u32,
     base: RealAddress,
     entries: u32,
+    table: &[u16; 123],
 ) -> Out
-    requires { ⌜ Fits base entries (now mem) ⌝ }
+    requires { ⌜ Fits base entries (now mem) × (now table ≡ tableOf) ⌝ }
     ensures { λ r. ⌜ outAs r (now (regs .exit)) (now (mem .exit)) ≡ execOf status base entries (now (regs .entry)) (now (mem .entry)) ⌝ }
 {
     let pc = regs[15];
@@ -245,7 +247,7 @@ pub fn exec(
                 return Out::Alarm(13, b);
             }
             regs[15] = operands::plus(pc, 1);
-            let o = operands::take_all(mem, regs, status, base, entries, codes::rules_of(b));
+            let o = operands::take_all(mem, regs, status, base, entries, codes::rules_of(table, b));
             match o {
                 Operands::Alarm(n, a) => Out::Alarm(n, a),
                 Operands::Ready(x, y, target) => {

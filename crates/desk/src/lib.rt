@@ -366,7 +366,8 @@ fn one_step(d: Desk, mem: &mut [u8]) -> StepReply
     }
     let mut work = d.registers;
     let base = d.base;
-    let out = commands::exec(mem, &mut work, d.status, base, d.entries);
+    let table = codes::table();
+    let out = commands::exec(mem, &mut work, d.status, base, d.entries, &table);
     match out {
         Out::Done(s) => done(d, work, s),
         _ => conclude(d, mem, work, out),
@@ -399,6 +400,7 @@ fn steps(d: Desk, mem: &mut [u8], n: u64) -> RunReply
     let mut regs = d.registers;
     let mut status = d.status;
     let mut count: u64 = 0;
+    let table = codes::table();
     while count < n {
         count += 1;
         let level = interrupt(status, desk.pending);
@@ -408,7 +410,7 @@ fn steps(d: Desk, mem: &mut [u8], n: u64) -> RunReply
         } else {
             let saved = regs;
             let base = desk.base;
-            let out = commands::exec(mem, &mut regs, status, base, desk.entries);
+            let out = commands::exec(mem, &mut regs, status, base, desk.entries, &table);
             match out {
                 Out::Done(s) => {
                     status = s;

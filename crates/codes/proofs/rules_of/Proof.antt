@@ -1,62 +1,46 @@
--- `codes::rules_of`: the constant table is the table of command bytes, each byte's rules as one number. Assumes nothing.
-use Prim.Native.Nat.{ℕ, _+_, _*_, _<_}
+-- `codes::rules_of`: each number of the table reads as its byte's rules, and a byte past the table is unknown. Assumes nothing.
+use Prim.Native.Nat.{ℕ, _≤_, _<_}
 use mathlib.Core.Path.{_≡_, refl}
 use mathlib.Core.Bool.{true}
-use mathlib.Core.List.{List, [], _∷_}
+use mathlib.Core.List.{[]}
 use native.Mathlib.Omega.{arith}
 use borrow.Author.Needs.{needs}
 use borrow.Author.Tests.{ltb-true}
 use lib.Dec.{ltb}
 use lib.ListN.{getD}
-use Rattle.mi.specs.declared.Size.{Size}
-use Rattle.mi.specs.declared.Size.the-variants.{B, H, W}
-use Rattle.mi.specs.declared.Role.{Role}
-use Rattle.mi.specs.declared.Role.the-variants.{Value, Address, Destination, Update}
-use Rattle.mi.specs.Code.{Rule, table, knownIn, known}
-use Rattle.codes.specs.Rules.{rulesFrom, rulesIn, knownRules}
+use Rattle.mi.specs.Code.{table, knownIn, known}
+use Rattle.codes.specs.Rules.{rulesFrom, rulesIn, knownRules, numbersFrom, tableOf}
 use Rattle.codes.proofs.Bytes.{values, same}
 use Rattle.codes.proofs.rules_of.Statement.{statement}
 use Rattle.codes.proofs.rules_of.Tie as tie
 
-abbrev ofSize : Size → ℕ
-ofSize B = 1
-ofSize H = 2
-ofSize W = 3
+below : (b : ℕ) → b < 123 → getD tableOf b 0 < 65536
+unfolding table knownIn known numbersFrom tableOf
+below b h = ltb-true _ _ (same (λ k. ltb (getD tableOf k 0) 65536) (λ k. true) 123 0 refl b (omega arith) h)
 
-abbrev ofRole : Role → ℕ
-ofRole Value = 0
-ofRole Address = 4
-ofRole Destination = 8
-ofRole Update = 12
+rules : (b : ℕ) → b < 123 → rulesIn (getD tableOf b 0) ≡ knownRules (known b)
+unfolding table knownIn known numbersFrom tableOf rulesFrom
+rules b h = same (λ k. rulesIn (getD tableOf k 0)) (λ k. knownRules (known k)) 123 0 refl b (omega arith) h
 
-abbrev ofRules : List Rule → ℕ
-ofRules [] = 0
-ofRules (r ∷ rs) = ofSize (r .size) + ofRole (r .role) + 16 * ofRules rs
-
-numbers : List ℕ
+past : (b : ℕ) → 123 ≤ b → b < 256 → [] ≡ knownRules (known b)
 unfolding table knownIn known
-numbers = values (λ k. ofRules (knownRules (known k))) 256 0
-
-below : (m b : ℕ) → values (λ k. ltb (getD numbers k 0) m) 256 0 ≡ values (λ k. true) 256 0 → b < 256 → getD numbers b 0 < m
-below m b e h = ltb-true _ _ (same (λ k. ltb (getD numbers k 0) m) (λ k. true) 256 0 e b (omega arith) h)
-
-rules : (b : ℕ) → b < 256 → rulesIn (getD numbers b 0) ≡ knownRules (known b)
-unfolding numbers rulesFrom
-rules b h = same (λ k. rulesIn (getD numbers k 0)) (λ k. knownRules (known k)) 256 0 refl b (omega arith) h
+past b l h = same (λ k. []) (λ k. knownRules (known k)) 133 123 refl b l h
 
 mul-result : tie.Need-mul-result
 mul-result c = search needs
 
-array-read-result : tie.Need-array-read-result
-array-read-result c = search needs
+element-copy-out-result : tie.Need-element-copy-out-result
+element-copy-out-result c = search needs
 
 cast-result : tie.Need-cast-result
-unfolding numbers
-cast-result c = record { fits = below _ (c .args .b) refl (c .pre) }
+cast-result c = record { fits = rw (c .before .before .pre .0) (let h : getD tableOf (c .before .before .args .b) 0 < 65536 = below _ (c .before .if1 .taken) in omega arith) }
 
 returns : tie.Need-returns
-unfolding numbers
-returns c = (rules (c .args .b) (c .pre), below _ (c .args .b) refl (c .pre))
+returns c = rw (c .before .before .pre .0) (rules _ (c .before .if1 .taken), below _ (c .before .if1 .taken))
+
+returns-2 : tie.Need-returns-2
+unfolding rulesFrom
+returns-2 c = (past _ (c .if1 .left) (c .before .pre .1), omega arith)
 
 pub rules-of-spec : {M : Type 1} → statement M
-rules-of-spec = tie.close (tie.spec mul-result array-read-result cast-result returns)
+rules-of-spec = tie.close (tie.spec mul-result element-copy-out-result cast-result returns returns-2)

@@ -38,7 +38,9 @@ element-write-regs : tie.Need-element-write-regs
 element-write-regs c = search needs
 
 rules-of-requires : tie.Need-rules-of-requires
-rules-of-requires c κs = rw (c .before .before .before .before .before .before .c2 .given .1) at (c .before .before .before .before .before .before .before .before .fetch .ensures .1)
+rules-of-requires c κs =
+    let fetched = c .before .before .before .before .before .before .before .before in
+    (fetched .before .before .before .before .pre .1, rw (c .before .before .before .before .before .before .c2 .given .1) at (fetched .fetch .ensures .1))
 
 take-all-requires : tie.Need-take-all-requires
 take-all-requires c κs = search needs
@@ -53,7 +55,7 @@ act-of-requires : tie.Need-act-of-requires
 act-of-requires c κs = search needs
 
 finish-requires : tie.Need-finish-requires
-finish-requires c κs = (c .before .before .before .before .before .before .before .before .before .before .before .before .before .before .before .before .before .before .before .before .pre, rw (c .before .before .before .before .o2 .given .1) at (c .before .before .before .before .before .before .take-all .ensures .1))
+finish-requires c κs = (c .before .before .before .before .before .before .before .before .before .before .before .before .before .before .before .before .before .before .before .before .pre .0, rw (c .before .before .before .before .o2 .given .1) at (c .before .before .before .before .before .before .take-all .ensures .1))
 
 same-length-2 : tie.Need-same-length-2
 same-length-2 c = search needs

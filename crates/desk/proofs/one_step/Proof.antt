@@ -30,10 +30,13 @@ returns c =
     let a = i .before .before .args in
     step-enters (a .d) (a .mem .now) _ (i .interrupt .ensures .0) (b .if1 .taken) _ (c .before .before .enter-level .ensures)
 
+table-requires : tie.Need-table-requires
+table-requires c κs = search needs
+
 exec-requires : tie.Need-exec-requires
 exec-requires c κs =
-    let a = c .before .before .before .before .before .before .before in
-    map-fits (a .args .d) _ _ refl (passes _ _ (a .pre))
+    let a = c .before .before .before .before .before .before .before .before .before in
+    (map-fits (a .args .d) _ _ refl (passes _ _ (a .pre)), c .before .before .before .table .ensures)
 
 enum-known-out : tie.Need-enum-known-out
 enum-known-out c = search needs
@@ -44,13 +47,13 @@ done-requires c κs = search needs
 conclude-requires : tie.Need-conclude-requires
 conclude-requires c κs =
     let x = c .before .before .before .before in
-    blocks _ _ _ (x .exec .kept .0) (passes _ _ (x .before .before .before .before .before .before .before .before .pre))
+    blocks _ _ _ (x .exec .kept .0) (passes _ _ (x .before .before .before .before .before .before .before .before .before .before .pre))
 
 -- no level is due, so the command's end is the step
-ended : (c : tie.After-exec) (s : Stepped) → let a = c .before .before .before .before .before .before .before .before .args in
+ended : (c : tie.After-exec) (s : Stepped) → let a = c .before .before .before .before .before .before .before .before .before .before .args in
     s ≡ endedBy (a .d) (c .exec .last .0) (outAs (c .exec .result) (c .exec .last .1 .0) (c .exec .last .0)) → s ≡ shown (oneStep (a .d) (a .mem .now)) (a .mem .now)
 ended c s =
-    let i = c .before .before .before .before .before .before in
+    let i = c .before .before .before .before .before .before .before .before in
     let a = i .before .before .args in
     let none : interruptOf (a .d .status) (a .d .pending) ≡ 0 = omega (arith, i .interrupt .ensures .0) in
     command-step (a .d) (a .mem .now) (c .exec .result) _ _ none (c .exec .ensures) s
@@ -76,6 +79,7 @@ one-step-spec =
     enter-level-requires
     same-length
     returns
+    table-requires
     exec-requires
     enum-known-out
     done-requires

@@ -14,14 +14,17 @@ use Rattle.desk.proofs.steps.Statement.{statement}
 use Rattle.desk.proofs.steps.Tie as tie
 
 abbrev Inv-loop : tie.InvT-loop
-Inv-loop mem₀ n desk₀ regs₀ status₀ count₀ mem desk regs status count =
+Inv-loop mem₀ n desk₀ regs₀ status₀ count₀ table mem desk regs status count =
     (count ≤ n) × Midway n count (length mem₀) (stepsOf n 0 desk₀ mem₀) (going desk regs status) mem
 
 abbrev μ-loop : tie.MeasureT-loop
-μ-loop mem₀ n desk₀ regs₀ status₀ count₀ mem desk regs status count = n - count
+μ-loop mem₀ n desk₀ regs₀ status₀ count₀ table mem desk regs status count = n - count
+
+table-requires : tie.Need-table-requires Inv-loop μ-loop
+table-requires c κs = search needs
 
 loop-holds : tie.Need-loop-holds Inv-loop μ-loop
-loop-holds c = (search needs, start _ _ _ (c .before .before .pre))
+loop-holds c = (search needs, start _ _ _ (c .before .before .before .pre))
 
 add-count : tie.Need-add-count Inv-loop μ-loop
 add-count c = search needs
@@ -39,8 +42,8 @@ enter-level-requires c κs =
 
 exec-requires : tie.Need-exec-requires Inv-loop μ-loop
 exec-requires c κs =
-    let l = c .before .before .before .before .before .before .loop in
-    map-fits (going (l .desk) (l .regs) (l .status)) _ _ refl (l .inv .1 .passes)
+    let l = c .before .before .before .before .before .before .before .loop in
+    (map-fits (going (l .desk) (l .regs) (l .status)) _ _ refl (l .inv .1 .passes), c .before .before .before .before .before .before .before .before .table .ensures)
 
 enum-known-out : tie.Need-enum-known-out Inv-loop μ-loop
 enum-known-out c = search needs
@@ -51,7 +54,7 @@ loop-less c = search needs
 loop-again : tie.Need-loop-again Inv-loop μ-loop
 loop-again c =
     let x = c .before .before .before .before .before in
-    let i = x .before .before .before .before .before in
+    let i = x .before .before .before .before .before .before in
     let l = i .before .before .loop in
     let none : interruptOf (l .status) (l .desk .pending) ≡ 0 = omega (arith, i .interrupt .ensures .0) in
     (search needs, after-quiet (l .inv .1) (x .exec .result) _ _ none (x .exec .ensures) (i .before .loop-test .taken) refl _ (c .before .out .given .1) (x .exec .kept .0))
@@ -62,7 +65,7 @@ running-requires-2 c κs = search needs
 conclude-requires : tie.Need-conclude-requires Inv-loop μ-loop
 conclude-requires c κs =
     let x = c .before .before .before .before .before in
-    rw (c .before .running2 .ensures) (blocks _ _ _ (x .exec .kept .0) (x .before .before .before .before .before .before .before .loop .inv .1 .passes))
+    rw (c .before .running2 .ensures) (blocks _ _ _ (x .exec .kept .0) (x .before .before .before .before .before .before .before .before .loop .inv .1 .passes))
 
 enum-told : tie.Need-enum-told Inv-loop μ-loop
 enum-told c = search needs
@@ -72,7 +75,7 @@ loop-less-2 c = search needs
 
 -- after an interrupt, or a command that did not end quietly
 turn : (c : tie.Joined1 Inv-loop μ-loop)
-    → After (c .before .before .before .before .before .before .args .n) (c .before .before .before .loop .count + 1) (length (c .before .before .before .before .before .before .args .mem .now)) (stepsOf (c .before .before .before .before .before .before .args .n) 0 (c .before .before .before .before .before .before .args .d) (c .before .before .before .before .before .before .args .mem .now)) (c .if1 .desk) (c .if1 .mem)
+    → After (c .before .before .before .before .before .before .before .args .n) (c .before .before .before .loop .count + 1) (length (c .before .before .before .before .before .before .before .args .mem .now)) (stepsOf (c .before .before .before .before .before .before .before .args .n) 0 (c .before .before .before .before .before .before .before .args .d) (c .before .before .before .before .before .before .before .args .mem .now)) (c .if1 .desk) (c .if1 .mem)
 turn c =
     let l = c .before .before .before .loop in
     let left = c .before .before .loop-test .taken in
@@ -81,8 +84,8 @@ turn c =
     (λ w. rw (w .7, w .8) (after-level (l .inv .1) left (w .1 .ensures) (w .3 .result) _ _ (w .3 .kept .1 .0) level (w .0 .taken) (w .3 .ensures)))
     (λ w.
     let none : interruptOf (l .status) (l .desk .pending) ≡ 0 = omega (arith, level, w .0 .left) in
-    rw (w .14, w .15)
-    (after-command (l .inv .1) (w .4 .result) _ _ none (w .4 .ensures) left (w .8 .ensures) (w .10 .result) _ (w .10 .kept .1 .0 ∙ w .4 .kept .0) (w .10 .ensures)))
+    rw (w .15, w .16)
+    (after-command (l .inv .1) (w .5 .result) _ _ none (w .5 .ensures) left (w .9 .ensures) (w .11 .result) _ (w .11 .kept .1 .0 ∙ w .5 .kept .0) (w .11 .ensures)))
     (c .if1 .came)
 
 loop-again-2 : tie.Need-loop-again-2 Inv-loop μ-loop
@@ -118,6 +121,7 @@ steps-spec =
     (tie.spec
     Inv-loop
     μ-loop
+    table-requires
     loop-holds
     add-count
     interrupt-requires

@@ -1,0 +1,13 @@
+-- `codes::table`: the constant table is the table of command bytes, each byte's rules as one number. Assumes nothing.
+use mathlib.Core.Path.{refl}
+use Rattle.mi.specs.Code.{table, knownIn, known}
+use Rattle.codes.specs.Rules.{numbersFrom, tableOf}
+use Rattle.codes.proofs.table.Statement.{statement}
+use Rattle.codes.proofs.table.Tie as tie
+
+returns : tie.Need-returns
+unfolding table knownIn known numbersFrom tableOf
+returns c = refl
+
+pub table-spec : {M : Type 1} → statement M
+table-spec = tie.close (tie.spec returns)
