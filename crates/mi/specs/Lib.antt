@@ -1,12 +1,26 @@
+-- What the desk means: document 01 in its order. Read from the top, with the paper beside it.
+
+-- bytes of a value stand highest first; B, H, W
 pub mod Words
+-- What the desk holds
 pub mod State
+-- Map: entries, the lookup of one byte, reached frames
 pub mod Map
+-- Code: the table of command bytes
 pub mod Code
+-- Code: the nine forms
 pub mod Operands
+-- document 000, 1.1 and 2.5: results and flags
 pub mod Integers
+-- One step: what a command does
 pub mod Commands
+-- One step: interrupts, kernel entry, RESUME, stops
 pub mod Steps
+-- Numbers 1 to 16: refusals and the four calls
 pub mod Calls
+-- demand 3
 pub mod Isolation
+-- Tried values, marked *
 pub mod TriedValues
+-- demand 3's premises: met, and each needed
 pub mod Premises
