@@ -13,7 +13,8 @@ use Rattle.mi.specs.declared.VirtualAddress.{VirtualAddress}
 use Rattle.mi.specs.declared.Access.{Access}
 use Rattle.mi.specs.declared.Access.the-variants.{Fetch, Read, Write}
 use Rattle.mi.specs.Words.{Memory, wordAt}
-use Rattle.mi.specs.Map.{got, alarm, pageOf, mapEntry, present, writable, forbiddenBits, frameOf, undamaged, foundAt, inFrame, allows, inNumberOrder, mapped}
+use Rattle.mi.specs.Alarms.{got, alarm}
+use Rattle.mi.specs.Map.{pageOf, mapEntry, present, writable, forbiddenBits, frameOf, undamaged, foundAt, inFrame, allows, inNumberOrder, mapped}
 
 module _ (base : RealAddress) (entries : ℕ) (m : Memory) (x : VirtualAddress) (w : Access) where
   pub mapped-8 : entries ≤ pageOf x → alarm 8 (x .0) ≡ mapped base entries m x w

@@ -10,7 +10,8 @@ use Rattle.mi.specs.declared.Access.the-variants.{Fetch}
 use Rattle.mi.specs.declared.Size.{Size}
 use Rattle.mi.specs.declared.Size.the-variants.{B, H, W}
 use Rattle.mi.specs.Words.{Memory, byteAt, lengthOf, wordAt, wrap}
-use Rattle.mi.specs.Map.{got, alarm, viewBy, readFrom, readBytes}
+use Rattle.mi.specs.Alarms.{got, alarm}
+use Rattle.mi.specs.Map.{viewBy, readFrom, readBytes}
 use Rattle.mi.specs.Operands.{fieldsAt}
 use Rattle.mi.proofs.Pages.{Alarms, read-alarm, Finds, found-page}
 use Rattle.access.specs.Answers.{valueAt}

@@ -6,7 +6,8 @@ use native.Mathlib.Nat.{add-zero, sub-zero, pow-suc}
 use native.Mathlib.Omega.{arith}
 use Rattle.mi.specs.declared.Access.{Access}
 use Rattle.mi.specs.Words.{span, wrap}
-use Rattle.mi.specs.Map.{got, alarm, Found, View, readFrom}
+use Rattle.mi.specs.Alarms.{got, alarm}
+use Rattle.mi.specs.Map.{Found, View, readFrom}
 use Rattle.mi.proofs.Widths.{span-wider}
 
 -- ---- Three bytes and one more make a word

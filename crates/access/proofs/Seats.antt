@@ -6,7 +6,8 @@ use Rattle.mi.specs.declared.RealAddress.{RealAddress}
 use Rattle.mi.specs.declared.VirtualAddress.{VirtualAddress}
 use Rattle.mi.specs.declared.Access.{Access}
 use Rattle.mi.specs.Words.{Memory}
-use Rattle.mi.specs.Map.{got, foundAt, viewBy}
+use Rattle.mi.specs.Alarms.{got}
+use Rattle.mi.specs.Map.{foundAt, viewBy}
 use Rattle.mi.proofs.Pages.{Alarms, found-inside, Finds}
 use Rattle.access.specs.Answers.{Fits, seatAs}
 use Rattle.access.specs.declared.Seat.{Seat}

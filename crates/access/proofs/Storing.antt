@@ -11,7 +11,8 @@ use lib.ListN.{length, getD, set, take, drop}
 use lib.Seq.{drop-cons, getD-set-same, getD-set-other}
 use Rattle.mi.specs.declared.Access.the-variants.{Write}
 use Rattle.mi.specs.Words.{Memory, bytesOf, wrap}
-use Rattle.mi.specs.Map.{got, alarm, foundAt, View, RealWrites, writesFrom, realWritesFrom, located, commit}
+use Rattle.mi.specs.Alarms.{got, alarm}
+use Rattle.mi.specs.Map.{foundAt, View, RealWrites, writesFrom, realWritesFrom, located, commit}
 
 -- ---- The bytes of each size
 

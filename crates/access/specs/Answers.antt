@@ -5,7 +5,8 @@ use lib.ListN.{length}
 use Rattle.mi.specs.declared.RealAddress.{RealAddress}
 use Rattle.mi.specs.declared.VirtualAddress.{VirtualAddress}
 use Rattle.mi.specs.Words.{Memory, byteAt, span}
-use Rattle.mi.specs.Map.{Tried, got, alarm, Found, foundAt, RealWrites, commit}
+use Rattle.mi.specs.Alarms.{OrAlarm, got, alarm}
+use Rattle.mi.specs.Map.{Found, foundAt, RealWrites, commit}
 use Rattle.mi.specs.Operands.{Fields}
 use Rattle.access.specs.declared.Seat.{Seat}
 use Rattle.access.specs.declared.Seat.the-variants as seat
@@ -23,11 +24,11 @@ pub record Fits (base : RealAddress) (entries : ℕ) (m : Memory) : Type 0 where
   pub whole : length m % 512 ≡ 0
 
 -- a lookup of address x in memory m
-abbrev pub seatAs : Memory → VirtualAddress → Seat → Tried Found
+abbrev pub seatAs : Memory → VirtualAddress → Seat → OrAlarm Found
 seatAs m x (seat.At a) = got (foundAt m a)
 seatAs m x (seat.Alarm n) = alarm n (x .0)
 
-abbrev pub gotAs : Got → Tried ℕ
+abbrev pub gotAs : Got → OrAlarm ℕ
 gotAs (value.Value n) = got n
 gotAs (value.Alarm n x) = alarm n x
 
@@ -46,7 +47,7 @@ unfoldable pub valueAt : Memory → ℕ → ℕ → ℕ → ℕ
 valueAt m zero a acc = acc
 valueAt m (suc L) a acc = valueAt m L (a + 1) (acc * 256 + byteAt m a)
 
-abbrev pub rawAs : Raw → Tried Fields
+abbrev pub rawAs : Raw → OrAlarm Fields
 rawAs (raw.Fields f q z) = got (record { form = f; x = q / 16; y = q % 16; z = z })
 rawAs (raw.Alarm n x) = alarm n x
 
@@ -64,6 +65,6 @@ abbrev pub storedAs : Stored → Memory → Ended
 storedAs stored.Done m = wrote m
 storedAs (stored.Alarm n x) m = failed n x m
 
-abbrev pub endedBy : Memory → Tried RealWrites → Ended
+abbrev pub endedBy : Memory → OrAlarm RealWrites → Ended
 endedBy m (got ws) = wrote (commit ws m)
 endedBy m (alarm n x) = failed n x m

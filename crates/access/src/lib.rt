@@ -4,7 +4,7 @@ ghost use mathlib.Core.Path.{_≡_};
 ghost use Prim.Native.Nat.{_+_, _≤_, _<_};
 ghost use lib.ListN.{length, take};
 ghost use Rattle.mi.specs.Words.{lengthOf, wordAt, bytesOf};
-ghost use Rattle.mi.specs.Map.{inFrame, mapped, viewBy, readBytes, located, writesFrom, realWritesFrom, commit};
+ghost use Rattle.mi.specs.Map.{inFrame, mapped, realOf, viewBy, readBytes, located, writesFrom, realWritesFrom, commit};
 ghost use Rattle.mi.specs.Operands.{fieldsAt};
 ghost use Rattle.access.specs.Answers.{Fits, seatAs, gotAs, SpanOrAlarm, ByteOrAlarm, rawAs, PairOrAlarm, valueAt, storedAs, endedBy};
 use mi::Access;
@@ -91,6 +91,13 @@ fn look_mapped(mem: &[u8], base: RealAddress, entries: u32, x: VirtualAddress, w
     }
 }
 
+// In kernel mode.
+pub fn real(x: VirtualAddress) -> RealAddress
+    ensures { λ r. ⌜ r ≡ realOf x ⌝ }
+{
+    RealAddress(x.0)
+}
+
 // In the mode that the status tells.
 pub fn look(
     mem: &[u8],
@@ -107,7 +114,7 @@ pub fn look(
         return look_mapped(mem, base, entries, x, why);
     }
     if (x.0 as usize) < mem.len() {
-        return Seat::At(RealAddress(x.0));
+        return Seat::At(real(x));
     }
     Seat::Alarm(8)
 }
@@ -185,7 +192,13 @@ pub fn read(
             }
         }
     }
-    read_bytewise(mem, status, base, entries, x, width as usize, Access::Read)
+    // The slice and the answer of this call alone go through memory.
+    let all = mem;
+    let w = read_bytewise(all, status, base, entries, x, width as usize, Access::Read);
+    match w {
+        Got::Value(v) => Got::Value(v),
+        Got::Alarm(k, a) => Got::Alarm(k, a),
+    }
 }
 
 // A command byte.

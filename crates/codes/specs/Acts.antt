@@ -5,14 +5,14 @@ use mathlib.Core.Option.{Option, none, some}
 use Rattle.mi.specs.declared.Size.{Size}
 use Rattle.mi.specs.declared.Result.{Result}
 use Rattle.mi.specs.Words.{lengthOf}
-use Rattle.mi.specs.Map.{Tried, got, alarm}
+use Rattle.mi.specs.Alarms.{OrAlarm, got, alarm}
 use Rattle.mi.specs.Code.{Common, result, CMP, PUSHR, POPR, jump, CALL, RET, systemCall, HALT, RESUME, Command, common, userOnly, kernelOnly, Known, known}
 use Rattle.mi.specs.Integers.{natural, operate, compared}
-use Rattle.mi.specs.Commands.{holds}
+use Rattle.mi.specs.Commands.{jumps}
 use Rattle.codes.specs.declared.Act.{Act}
 use Rattle.codes.specs.declared.Act.the-variants as act
 
-abbrev pub given : Size → Tried Result → Act
+abbrev pub given : Size → OrAlarm Result → Act
 given s (got x) = act.Give s x
 given s (alarm n a) = act.Alarm n a
 
@@ -21,7 +21,7 @@ commonAct (result op s) f x y = given s (operate op (lengthOf s) (natural (lengt
 commonAct (CMP s) f x y = act.Flags (compared (lengthOf s) (natural (lengthOf s) x) (natural (lengthOf s) y))
 commonAct PUSHR f x y = act.Push
 commonAct POPR f x y = act.Pop
-commonAct (jump c) f x y = act.Jump (holds c f)
+commonAct (jump c) f x y = act.Jump (jumps c f)
 commonAct CALL f x y = act.Call
 commonAct RET f x y = act.Return
 

@@ -13,7 +13,8 @@ use Rattle.mi.specs.declared.Size.{Size}
 use Rattle.mi.specs.declared.Result.{Result}
 use Rattle.mi.specs.Words.{pick, Memory, lengthOf, wrap}
 use Rattle.mi.specs.State.{Registers, reg, userMode, flagsOf, withFlags}
-use Rattle.mi.specs.Map.{Tried, got, alarm, _>>=_, Found, View, viewBy, RealWrites, readFrom, readBytes, located, commit}
+use Rattle.mi.specs.Alarms.{OrAlarm, got, alarm, _>>=_}
+use Rattle.mi.specs.Map.{Found, View, viewBy, RealWrites, readFrom, readBytes, located, commit}
 use Rattle.mi.specs.Code.{Common, result, CMP, PUSHR, POPR, jump, CALL, RET, systemCall, HALT, RESUME, Command, common, userOnly, kernelOnly, Rule, Known, known}
 use Rattle.mi.specs.Integers.{natural, operate}
 use Rattle.mi.specs.Operands.{virtual, past, Operands, operandsFrom, operandsOf}
@@ -34,7 +35,7 @@ unfolding readFrom
 read-same v w zero a b acc e = refl
 read-same v w (suc L) a b acc e = rw e (go (λ n. read-same v w L (a + 1) (b + 1) n (omega arith)) (v (record { 0 = wrap b }) w))
   where
-    go : ((n : ℕ) → readFrom v w L (a + 1) n ≡ readFrom v w L (b + 1) n) → (t : Tried Found)
+    go : ((n : ℕ) → readFrom v w L (a + 1) n ≡ readFrom v w L (b + 1) n) → (t : OrAlarm Found)
         → (t >>= (λ f. readFrom v w L (a + 1) (acc * 256 + f .byte))) ≡ (t >>= (λ f. readFrom v w L (b + 1) (acc * 256 + f .byte)))
     go h (got f) = h (acc * 256 + f .byte)
     go h (alarm n x) = refl
@@ -49,7 +50,7 @@ unfolding withFlags
 same-status s = omega arith
 
 module _ (s : ℕ) (m : Memory) where
-  written : (d : Done) (t : Tried RealWrites) → endedAs (endedBy m t) (d .registers) (withFlags s (d .flags)) ≡ writtenEnd s m d t
+  written : (d : Done) (t : OrAlarm RealWrites) → endedAs (endedBy m t) (d .registers) (withFlags s (d .flags)) ≡ writtenEnd s m d t
   written d (got ws) = refl
   written d (alarm n x) = refl
 
@@ -61,15 +62,15 @@ module _ (s : ℕ) (m : Memory) where
 -- ---- A command whose byte and operands are known
 
 module _ (s : ℕ) (m : Memory) (v : View) where
-  user-done : (t : Tried Done) → userEnd s m v (t >>= (λ d. got (done d))) ≡ doneEnd s m v t
+  user-done : (t : OrAlarm Done) → userEnd s m v (t >>= (λ d. got (done d))) ≡ doneEnd s m v t
   user-done (got d) = refl
   user-done (alarm n x) = refl
 
-  kernel-done : (t : Tried Done) → kernelEnd s m v (t >>= (λ d. got (done d))) ≡ doneEnd s m v t
+  kernel-done : (t : OrAlarm Done) → kernelEnd s m v (t >>= (λ d. got (done d))) ≡ doneEnd s m v t
   kernel-done (got d) = refl
   kernel-done (alarm n x) = refl
 
-  result-end : (size : Size) (o : Operands) (t : Tried Result)
+  result-end : (size : Size) (o : Operands) (t : OrAlarm Result)
       → doneEnd s m v (t >>= (λ x. got (stored (lengthOf size) x (o .target) (o .registers)))) ≡ actEnd s m v (o .registers) (o .first) (o .target) (given size t)
   unfolding actEnd
   result-end size o (got x) = refl

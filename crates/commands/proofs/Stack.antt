@@ -11,7 +11,8 @@ use lib.Seq.{take-all, take-suc, take-at, sets-eq, getD-append-add}
 use Rattle.mi.specs.declared.Access.the-variants.{Read}
 use Rattle.mi.specs.Words.{bytesOf, bytesOfWords, wrap, raised, lowered}
 use Rattle.mi.specs.State.{Registers, reg, registersFrom}
-use Rattle.mi.specs.Map.{got, alarm, View, VirtualWrites, readBytes, writesFrom}
+use Rattle.mi.specs.Alarms.{got, alarm}
+use Rattle.mi.specs.Map.{View, VirtualWrites, readBytes, writesFrom}
 use Rattle.mi.specs.Commands.{pushed, popped}
 use Rattle.mi.proofs.Bytes.{bytes-length}
 use Rattle.mi.proofs.Blocks.{commit-word}

@@ -3,14 +3,16 @@ use Prim.Native.Nat.{ℕ}
 use mathlib.Core.Path.{_≡_}
 use mathlib.Core.List.{[]}
 use lib.ListN.{set}
+use Rattle.mi.specs.declared.VirtualAddress.{VirtualAddress}
 use Rattle.mi.specs.declared.RealAddress.{RealAddress}
 use Rattle.mi.specs.declared.Access.the-variants.{Read}
 use Rattle.mi.specs.declared.Target.{Target}
 use Rattle.mi.specs.Words.{pick, Memory, lengthOf}
 use Rattle.mi.specs.State.{Registers, reg, userMode, flagsOf, withFlags}
-use Rattle.mi.specs.Map.{Tried, got, alarm, _>>=_, View, viewBy, readBytes, RealWrites, located, commit}
+use Rattle.mi.specs.Alarms.{OrAlarm, got, alarm, _>>=_}
+use Rattle.mi.specs.Map.{View, viewBy, readBytes, RealWrites, located, commit}
 use Rattle.mi.specs.Operands.{virtual}
-use Rattle.mi.specs.Commands.{Done, stored, pushed, popped, called, returned, Act, done, does, SystemCall, userCommand, KernelEffect, kernelCommand}
+use Rattle.mi.specs.Commands.{Done, stored, pushed, popped, called, returned, Act, done, modal, SystemCall, userCommand, KernelEffect, kernelCommand}
 use Rattle.mi.specs.Commands.{halts as halting, resumes as resuming}
 use Rattle.access.specs.declared.Stored.{Stored}
 use Rattle.access.specs.Answers.{Ended, wrote, failed, storedAs}
@@ -26,7 +28,7 @@ pub data End : Type 0 where
   calls : ℕ → Registers → Memory → End
   halts : Registers → Memory → End
   -- a control block's address
-  resumes : ℕ → Memory → End
+  resumes : VirtualAddress → Memory → End
   -- an alarm with its number and argument
   alarmed : ℕ → ℕ → Memory → End
 
@@ -48,23 +50,23 @@ pub record EndedAs (o : Out) (t : Stored) (s : ℕ) : Type 0 where
 
 -- ---- From what a command came to, with status s, memory m and view v
 
-abbrev pub writtenEnd : ℕ → Memory → Done → Tried RealWrites → End
+abbrev pub writtenEnd : ℕ → Memory → Done → OrAlarm RealWrites → End
 writtenEnd s m d (got ws) = went (d .registers) (withFlags s (d .flags)) (commit ws m)
 writtenEnd s m d (alarm n x) = alarmed n x m
 
-abbrev pub doneEnd : ℕ → Memory → View → Tried Done → End
+abbrev pub doneEnd : ℕ → Memory → View → OrAlarm Done → End
 doneEnd s m v (got d) = writtenEnd s m d (located v (d .writes))
 doneEnd s m v (alarm n x) = alarmed n x m
 
-abbrev pub userEnd : ℕ → Memory → View → Tried (Act SystemCall) → End
+abbrev pub userEnd : ℕ → Memory → View → OrAlarm (Act SystemCall) → End
 userEnd s m v (got (done d)) = doneEnd s m v (got d)
-userEnd s m v (got (does c)) = calls (c .argument) (c .registers) m
+userEnd s m v (got (modal c)) = calls (c .argument) (c .registers) m
 userEnd s m v (alarm n x) = alarmed n x m
 
-abbrev pub kernelEnd : ℕ → Memory → View → Tried (Act KernelEffect) → End
+abbrev pub kernelEnd : ℕ → Memory → View → OrAlarm (Act KernelEffect) → End
 kernelEnd s m v (got (done d)) = doneEnd s m v (got d)
-kernelEnd s m v (got (does (halting r))) = halts r m
-kernelEnd s m v (got (does (resuming a))) = resumes a m
+kernelEnd s m v (got (modal (halting r))) = halts r m
+kernelEnd s m v (got (modal (resuming a))) = resumes a m
 kernelEnd s m v (alarm n x) = alarmed n x m
 
 -- the command at R15, in the mode that the status tells
@@ -76,10 +78,10 @@ execOf s base entries r m =
 
 -- ---- From what its byte asks for, once its operands are taken: x is the first number, t the target
 
-abbrev pub poppedDone : View → Registers → ℕ → Tried Done
+abbrev pub poppedDone : View → Registers → ℕ → OrAlarm Done
 poppedDone v r f = popped v 15 0 r >>= (λ q. got (record { registers = q; flags = f; writes = [] }))
 
-abbrev pub returnedDone : View → Registers → ℕ → Tried Done
+abbrev pub returnedDone : View → Registers → ℕ → OrAlarm Done
 returnedDone v r f = readBytes v Read 4 (virtual (reg r 14)) >>= (λ w. got (returned w r f))
 
 unfoldable pub actEnd : ℕ → Memory → View → Registers → ℕ → Target → Asked → End
@@ -92,5 +94,5 @@ actEnd s m v r x t act.Call = doneEnd s m v (got (called x r (flagsOf s)))
 actEnd s m v r x t act.Return = doneEnd s m v (returnedDone v r (flagsOf s))
 actEnd s m v r x t act.System = calls x r m
 actEnd s m v r x t act.Halt = halts r m
-actEnd s m v r x t act.Resume = resumes x m
+actEnd s m v r x t act.Resume = resumes (record { 0 = x }) m
 actEnd s m v r x t (act.Alarm n a) = alarmed n a m

@@ -5,7 +5,8 @@ ghost use mathlib.Core.List.{[], _∷_, _++_};
 ghost use Prim.Native.Nat.{_<_};
 ghost use Rattle.mi.specs.Words.{lengthOf, bytesOfWords};
 ghost use Rattle.mi.specs.State.{reg, flagsOf, withFlags, registersFrom};
-ghost use Rattle.mi.specs.Map.{got, viewBy};
+ghost use Rattle.mi.specs.Alarms.{got};
+ghost use Rattle.mi.specs.Map.{viewBy};
 ghost use Rattle.mi.specs.Commands.{keptRest, stored, pushed, called};
 ghost use Rattle.access.specs.Answers.{Fits};
 ghost use Rattle.codes.specs.Rules.{tableOf};
@@ -28,7 +29,7 @@ pub enum Out {
     Done(u32),
     System(u32),
     Halt,
-    Resume(u32),
+    Resume(VirtualAddress),
     Alarm(u32, u32),
 }
 
@@ -220,7 +221,7 @@ fn finish(
         Act::Return => ret(mem, regs, status, base, entries),
         Act::System => Out::System(x),
         Act::Halt => Out::Halt,
-        Act::Resume => Out::Resume(x),
+        Act::Resume => Out::Resume(VirtualAddress(x)),
         Act::Alarm(n, a) => Out::Alarm(n, a),
     }
 }

@@ -8,8 +8,9 @@ use Rattle.mi.specs.declared.RealAddress.{RealAddress}
 use Rattle.mi.specs.declared.Desk.{Desk}
 use Rattle.mi.specs.Words.{pick, Memory, wordAt}
 use Rattle.mi.specs.State.{Registers, userMode, levelOf, flagsOf, withoutLevel, systemBlockOf, validUserStatus, blockFits, mapFits}
-use Rattle.mi.specs.Map.{Tried, got, alarm, View, viewOf, viewBy, RealWrites, located, commit}
-use Rattle.mi.specs.Commands.{Done, Act, done, does, SystemCall, userCommand, KernelEffect, kernelCommand}
+use Rattle.mi.specs.Alarms.{OrAlarm, got, alarm}
+use Rattle.mi.specs.Map.{View, viewOf, viewBy, RealWrites, located, commit}
+use Rattle.mi.specs.Commands.{Done, Act, done, modal, SystemCall, userCommand, KernelEffect, kernelCommand}
 use Rattle.mi.specs.Commands.{halts as halting, resumes as resuming}
 use Rattle.mi.specs.Steps.{Outcome, stop, resume, Course, enters, goOn, due, written, ofCommand, interrupted, userCourse, concluded, userStep, kernelWritten, ofKernelCommand, kernelStep, oneStep}
 use Rattle.mi.specs.Calls.{Stepped}
@@ -22,29 +23,29 @@ use Rattle.desk.specs.Replies.{shown, enteredBy, endedBy, interruptOf}
 -- ---- The end is the step
 
 module _ (d : Desk) (m : Memory) where
-  written-end : userMode (d .status) ≡ true → (c : Done) (t : Tried RealWrites)
+  written-end : userMode (d .status) ≡ true → (c : Done) (t : OrAlarm RealWrites)
       → enteredBy d m (written (d .registers) (d .status) (d .pending) c t) ≡ endedBy d m (writtenEnd (d .status) m c t)
   unfolding written concluded goOn endedBy
   written-end u c (got ws) = refl
   written-end u c (alarm n x) = rw u
 
-  user-end : userMode (d .status) ≡ true → (v : View) (t : Tried (Act SystemCall))
+  user-end : userMode (d .status) ≡ true → (v : View) (t : OrAlarm (Act SystemCall))
       → enteredBy d m (ofCommand (d .registers) (d .status) (d .pending) v t) ≡ endedBy d m (userEnd (d .status) m v t)
   unfolding ofCommand endedBy
   user-end u v (got (done c)) = written-end u c (located v (c .writes))
-  user-end u v (got (does c)) = refl
+  user-end u v (got (modal c)) = refl
   user-end u v (alarm n x) = rw u
 
-  kernel-written-end : userMode (d .status) ≡ false → (c : Done) (t : Tried RealWrites) → shown (kernelWritten d c t) m ≡ endedBy d m (writtenEnd (d .status) m c t)
+  kernel-written-end : userMode (d .status) ≡ false → (c : Done) (t : OrAlarm RealWrites) → shown (kernelWritten d c t) m ≡ endedBy d m (writtenEnd (d .status) m c t)
   unfolding kernelWritten goOn endedBy
   kernel-written-end u c (got ws) = refl
   kernel-written-end u c (alarm n x) = rw u
 
-  kernel-end : userMode (d .status) ≡ false → (v : View) (t : Tried (Act KernelEffect)) → shown (ofKernelCommand d m v t) m ≡ endedBy d m (kernelEnd (d .status) m v t)
+  kernel-end : userMode (d .status) ≡ false → (v : View) (t : OrAlarm (Act KernelEffect)) → shown (ofKernelCommand d m v t) m ≡ endedBy d m (kernelEnd (d .status) m v t)
   unfolding ofKernelCommand endedBy
   kernel-end u v (got (done c)) = kernel-written-end u c (located v (c .writes))
-  kernel-end u v (got (does (halting r))) = refl
-  kernel-end u v (got (does (resuming a))) = refl
+  kernel-end u v (got (modal (halting r))) = refl
+  kernel-end u v (got (modal (resuming a))) = refl
   kernel-end u v (alarm n x) = rw u
 
   -- no interrupt is due
@@ -106,19 +107,19 @@ Kept m (halts r n) = n ≡ m
 Kept m (resumes a n) = n ≡ m
 Kept m (alarmed k x n) = n ≡ m
 
-written-kept : (s : ℕ) (m : Memory) (c : Done) (t : Tried RealWrites) → Kept m (writtenEnd s m c t)
+written-kept : (s : ℕ) (m : Memory) (c : Done) (t : OrAlarm RealWrites) → Kept m (writtenEnd s m c t)
 written-kept s m c (got ws) = tt
 written-kept s m c (alarm n x) = refl
 
-user-kept : (s : ℕ) (m : Memory) (v : View) (t : Tried (Act SystemCall)) → Kept m (userEnd s m v t)
+user-kept : (s : ℕ) (m : Memory) (v : View) (t : OrAlarm (Act SystemCall)) → Kept m (userEnd s m v t)
 user-kept s m v (got (done c)) = written-kept s m c (located v (c .writes))
-user-kept s m v (got (does c)) = refl
+user-kept s m v (got (modal c)) = refl
 user-kept s m v (alarm n x) = refl
 
-kernel-kept : (s : ℕ) (m : Memory) (v : View) (t : Tried (Act KernelEffect)) → Kept m (kernelEnd s m v t)
+kernel-kept : (s : ℕ) (m : Memory) (v : View) (t : OrAlarm (Act KernelEffect)) → Kept m (kernelEnd s m v t)
 kernel-kept s m v (got (done c)) = written-kept s m c (located v (c .writes))
-kernel-kept s m v (got (does (halting r))) = refl
-kernel-kept s m v (got (does (resuming a))) = refl
+kernel-kept s m v (got (modal (halting r))) = refl
+kernel-kept s m v (got (modal (resuming a))) = refl
 kernel-kept s m v (alarm n x) = refl
 
 exec-kept : (s : ℕ) (base : RealAddress) (entries : ℕ) (r : Registers) (m : Memory) → Kept m (execOf s base entries r m)

@@ -16,7 +16,7 @@ use Rattle.mi.specs.Words.{Memory}
 use Rattle.mi.specs.State.{Registers, isRunning, withoutLevel, deskWith}
 use Rattle.mi.specs.Map.{commit}
 use Rattle.mi.specs.Steps.{enters, oneStep}
-use Rattle.mi.specs.Calls.{Stepped, Ran, ran, unchanged, unlessRefused, stepAnswerOf, stepOf, steppedOf, stepsOf, runUnless, runOf}
+use Rattle.mi.specs.Calls.{Stepped, Ran, ran, unchanged, unlessRefused, stepRefusal, stepOf, steppedOf, stepsOf, runUnless, runOf}
 use Rattle.mi.proofs.Accepted.{Passes, passes, block-inside, length-whole, length-small, runs, step-lasts, steps-more, steps-stopped, steps-done}
 use Rattle.access.specs.Answers.{Fits}
 use Rattle.commands.specs.declared.Out.{Out}
@@ -41,19 +41,19 @@ module _ (d : Desk) (m : Memory) (n : ℕ) (same : length m ≡ n) (p : Passes d
 -- ---- A step and a run that are refused, and those that are not
 
 module _ (d : Desk) (m : Memory) where
-  pub refused-step : (k : Refusal) → stepAnswerOf d (length m) ≡ Refused k → stepped (record { answer = stepAnswer.Refused k; desk = d }) m ≡ steppedOf d m
+  pub refused-step : (k : Refusal) → stepRefusal d (length m) ≡ Refused k → stepped (record { answer = stepAnswer.Refused k; desk = d }) m ≡ steppedOf d m
   unfolding steppedOf stepOf unlessRefused unchanged commit
   refused-step k e = rw e
 
-  pub accepted-step : stepAnswerOf d (length m) ≡ Accepted → shown (oneStep d m) m ≡ steppedOf d m
+  pub accepted-step : stepRefusal d (length m) ≡ Accepted → shown (oneStep d m) m ≡ steppedOf d m
   unfolding steppedOf stepOf unlessRefused
   accepted-step e = rw e
 
-  pub refused-run : (n : ℕ) (k : Refusal) → stepAnswerOf d (length m) ≡ Refused k → ran (Refused k) 0 d m ≡ runOf n d m
+  pub refused-run : (n : ℕ) (k : Refusal) → stepRefusal d (length m) ≡ Refused k → ran (Refused k) 0 d m ≡ runOf n d m
   unfolding runOf runUnless
   refused-run n k e = rw e
 
-  pub accepted-run : (n : ℕ) → stepAnswerOf d (length m) ≡ Accepted → stepsOf n 0 d m ≡ runOf n d m
+  pub accepted-run : (n : ℕ) → stepRefusal d (length m) ≡ Accepted → stepsOf n 0 d m ≡ runOf n d m
   unfolding runOf runUnless
   accepted-run n e = rw e
 
@@ -80,7 +80,7 @@ pub record After (n k size : ℕ) (goal : Ran) (d : Desk) (m : Memory) : Type 0 
   pub lasts : isRunning (d .mark) ≡ true → Passes d (length m)
   pub steps : stepsOf (n - k) k d m ≡ goal
 
-pub start : (n : ℕ) (d : Desk) (m : Memory) → stepAnswerOf d (length m) ≡ Accepted → Midway n 0 (length m) (stepsOf n 0 d m) (going d (d .registers) (d .status)) m
+pub start : (n : ℕ) (d : Desk) (m : Memory) → stepRefusal d (length m) ≡ Accepted → Midway n 0 (length m) (stepsOf n 0 d m) (going d (d .registers) (d .status)) m
 start n d m e =
     let p = passes d (length m) e in
     subst (λ (x : Desk). Midway n 0 (length m) (stepsOf n 0 d m) x m) (gathered d (p .mark)) (record { same = refl; passes = p; steps = rw (sub-zero n) })

@@ -7,7 +7,7 @@ use Rattle.mi.specs.declared.StepAnswer.the-variants as stepAnswer
 use Rattle.mi.specs.declared.RunReply.{RunReply}
 use Rattle.mi.specs.Words.{pick, Memory}
 use Rattle.mi.specs.State.{userMode, levelOf, systemBlockOf, deskWith}
-use Rattle.mi.specs.Map.{commit}
+use Rattle.mi.specs.Map.{realOf, commit}
 use Rattle.mi.specs.Steps.{Outcome, Course, enters, due, concluded, stop, halt, resume}
 use Rattle.mi.specs.Calls.{Stepped, eventAnswer, Ran}
 use Rattle.commands.specs.Ends.{End, went, calls, halts, resumes, alarmed}
@@ -43,7 +43,7 @@ unfoldable pub endedBy : Desk → Memory → End → Stepped
 endedBy d m (went r s n) = stepped (record { answer = stepAnswer.Done; desk = deskWith d r s (d .pending) (d .mark) }) n
 endedBy d m (calls x r n) = enteredBy d m (enters 1 r x (d .pending))
 endedBy d m (halts r n) = shown (halt r d) m
-endedBy d m (resumes a n) = shown (resume d m (record { 0 = a })) m
+endedBy d m (resumes x n) = shown (resume d m (realOf x)) m
 endedBy d m (alarmed n x k) = alarmedBy d m n x
 
 -- the level that is due, 0 for none: only in user mode

@@ -5,7 +5,7 @@ ghost use Prim.Native.Nat.{_+_, _^_, _≤_};
 ghost use lib.ListN.{length};
 ghost use Rattle.mi.specs.State.{allowedLength, validStatus, isPending, withLevel, withoutLevel, deskWith};
 ghost use Rattle.mi.specs.Steps.{enters, stop as stopOf, resume as resumeOf, oneStep};
-ghost use Rattle.mi.specs.Calls.{refusalNumber, zeroDesk, freshAnswer, freshOf, stepAnswerOf, steppedOf, requestedOf, stepsOf, runOf};
+ghost use Rattle.mi.specs.Calls.{refusalNumber, zeroDesk, freshRefusal, freshOf, stepRefusal, steppedOf, requestedOf, stepsOf, runOf};
 ghost use Rattle.commands.specs.Ends.{outAs};
 ghost use Rattle.desk.specs.Replies.{replyOf, stepped, shown, enteredBy, alarmedBy, endedBy, interruptOf, ranAs, Blocks};
 use commands::Out;
@@ -37,7 +37,7 @@ fn state_valid(status: u32, pending: u16) -> bool
 
 // Refusals 1 to 3, in number order: the memory's length and the two blocks.
 fn block_refusal(n: usize, system: RealAddress, control: RealAddress) -> Answer
-    ensures { λ r. ⌜ r ≡ freshAnswer n system control ⌝ }
+    ensures { λ r. ⌜ r ≡ freshRefusal n system control ⌝ }
 {
     let allowed = length_allowed(n);
     if !allowed {
@@ -56,7 +56,7 @@ fn block_refusal(n: usize, system: RealAddress, control: RealAddress) -> Answer
 
 // Refusals 1 to 5 and 7, in number order, of a step or a run over a memory of n bytes.
 fn refusal(d: Desk, n: usize) -> Answer
-    ensures { λ r. ⌜ r ≡ stepAnswerOf d n ⌝ }
+    ensures { λ r. ⌜ r ≡ stepRefusal d n ⌝ }
 {
     let system = d.system;
     let control = d.control;
@@ -318,7 +318,7 @@ fn conclude(d: Desk, mem: &mut [u8], work: [u32; 16], out: Out) -> StepReply
                 desk,
             }
         }
-        Out::Resume(a) => resume(d, mem, RealAddress(a)),
+        Out::Resume(x) => resume(d, mem, access::real(x)),
         Out::Alarm(n, x) => alarm(d, mem, n, x),
     }
 }
@@ -357,7 +357,7 @@ fn enter_level(d: Desk, mem: &mut [u8], level: u32) -> StepReply
 
 // The level that is due is entered, or a command is executed.
 fn one_step(d: Desk, mem: &mut [u8]) -> StepReply
-    requires { ⌜ stepAnswerOf d (length (now mem)) ≡ Answer.Accepted ⌝ }
+    requires { ⌜ stepRefusal d (length (now mem)) ≡ Answer.Accepted ⌝ }
     ensures { λ r. ⌜ stepped r (now (mem .exit)) ≡ shown (oneStep d (now (mem .entry))) (now (mem .entry)) ⌝ }
 {
     let level = interrupt(d.status, d.pending);
@@ -393,7 +393,7 @@ fn ran(steps: u64, desk: Desk) -> RunReply
 
 // At most n steps, up to a stop. While commands end quietly, registers and status stay in locals; all else goes through the whole desk.
 fn steps(d: Desk, mem: &mut [u8], n: u64) -> RunReply
-    requires { ⌜ stepAnswerOf d (length (now mem)) ≡ Answer.Accepted ⌝ }
+    requires { ⌜ stepRefusal d (length (now mem)) ≡ Answer.Accepted ⌝ }
     ensures { λ r. ⌜ ranAs r (now (mem .exit)) ≡ stepsOf n 0 d (now (mem .entry)) ⌝ }
 {
     let mut desk = d;

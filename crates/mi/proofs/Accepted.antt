@@ -16,20 +16,21 @@ use Rattle.mi.specs.declared.Refusal.{Refusal}
 use Rattle.mi.specs.declared.Answer.the-variants.{Accepted}
 use Rattle.mi.specs.Words.{pick, Memory, wordAt}
 use Rattle.mi.specs.State.{Registers, allowedLength, userMode, levelOf, flagsOf, withFlags, validStatus, validUserStatus, validKernelStatus, isPending, withoutLevel, systemBlockOf, entryR15, entryStatus, blockFits, isRunning}
-use Rattle.mi.specs.Map.{Tried, got, alarm, View, viewOf, RealWrites, located, commit}
-use Rattle.mi.specs.Commands.{Done, Act, done, does, SystemCall, userCommand, KernelEffect, halts, resumes}
+use Rattle.mi.specs.Alarms.{OrAlarm, got, alarm}
+use Rattle.mi.specs.Map.{View, realOf, viewOf, RealWrites, located, commit}
+use Rattle.mi.specs.Commands.{Done, Act, done, modal, SystemCall, userCommand, KernelEffect, halts, resumes}
 use Rattle.mi.specs.Steps.{Outcome, Course, enters, stop, halt, goOn, due, written, ofCommand, interrupted, userCourse, enterIf, concluded, userStep, resume, kernelWritten, ofKernelCommand, kernelStep, oneStep}
-use Rattle.mi.specs.Calls.{holds1, holds2, holds3, holds4, holds5, firstRefused, stepAnswerOf, unlessRefused, stepOf, ran, stepsOf}
+use Rattle.mi.specs.Calls.{passes1, passes2, passes3, passes4, passes5, firstRefused, stepRefusal, unlessRefused, stepOf, ran, stepsOf}
 use Rattle.mi.proofs.Widths.{and-true}
 
 -- ---- Each refusal's test has nothing to refuse
 
 pub record Passes (d : Desk) (n : ℕ) : Type 0 where
-  pub length : holds1 n ≡ true
-  pub system : holds2 (d .system) n ≡ true
-  pub control : holds3 (d .control) n ≡ true
-  pub map : holds4 d n ≡ true
-  pub state : holds5 d ≡ true
+  pub length : passes1 n ≡ true
+  pub system : passes2 (d .system) n ≡ true
+  pub control : passes3 (d .control) n ≡ true
+  pub map : passes4 d n ≡ true
+  pub state : passes5 d ≡ true
   pub mark : isRunning (d .mark) ≡ true
 
 first-passed : (b : Bool) (k : Refusal) (ts : List (Bool × Refusal)) → firstRefused ((b, k) ∷ ts) ≡ Accepted → (b ≡ true) × (firstRefused ts ≡ Accepted)
@@ -37,8 +38,8 @@ unfolding firstRefused
 first-passed true k ts e = (refl, e)
 first-passed false k ts e = absurd (let z : _≡_ {A = ℕ} 0 1 = cc in omega arith)
 
-pub passes : (d : Desk) (n : ℕ) → stepAnswerOf d n ≡ Accepted → Passes d n
-unfolding stepAnswerOf
+pub passes : (d : Desk) (n : ℕ) → stepRefusal d n ≡ Accepted → Passes d n
+unfolding stepRefusal
 passes d n e =
     let first = first-passed _ _ _ e in
     let second = first-passed _ _ _ (first .1) in
@@ -48,8 +49,8 @@ passes d n e =
     let last = first-passed _ _ _ (fifth .1) in
     record { length = first .0; system = second .0; control = third .0; map = fourth .0; state = fifth .0; mark = last .0 }
 
-pub accepted : (d : Desk) (n : ℕ) → Passes d n → stepAnswerOf d n ≡ Accepted
-unfolding stepAnswerOf firstRefused
+pub accepted : (d : Desk) (n : ℕ) → Passes d n → stepRefusal d n ≡ Accepted
+unfolding stepRefusal firstRefused
 accepted d n p = simp (p .length, p .system, p .control, p .map, p .state, p .mark)
 
 -- ---- What single tests tell
@@ -109,11 +110,11 @@ Lasts n o = isRunning (o .desk .mark) ≡ true → Passes (o .desk) n
 
 module _ (d : Desk) (n : ℕ) (p : Passes d n) where
   valid : validStatus (d .status) ≡ true
-  unfolding holds5
+  unfolding passes5
   valid = and-true _ _ (p .state) .0
 
   level-0 : not (isPending (d .pending) 0) ≡ true
-  unfolding holds5
+  unfolding passes5
   level-0 = and-true (validStatus (d .status)) _ (p .state) .1
 
   stop-lasts : (k : ℕ) → Lasts n (stop k d)
@@ -125,7 +126,7 @@ module _ (d : Desk) (n : ℕ) (p : Passes d n) where
   halt-lasts r e = absurd (let z : _≡_ {A = ℕ} 0 1 = cc in omega arith)
 
   go-lasts : (r : Registers) (f : ℕ) (ws : RealWrites) → Lasts n (goOn r (withFlags (d .status) f) ws d)
-  unfolding goOn holds5
+  unfolding goOn passes5
   go-lasts r f ws e = record {
     length = p .length;
     system = p .system;
@@ -136,7 +137,7 @@ module _ (d : Desk) (n : ℕ) (p : Passes d n) where
   }
 
   enter-lasts : (block : Memory) (i : ℕ) (r : Registers) (x q : ℕ) → not (isPending q 0) ≡ true → Lasts n (concluded d block (enters i r x q))
-  unfolding concluded enterIf holds5
+  unfolding concluded enterIf passes5
   enter-lasts block i r x q free = go (validKernelStatus (entryStatus block i)) refl
     where
       go : (b : Bool) → validKernelStatus (entryStatus block i) ≡ b → Lasts n (enterIf b d i r x q (entryR15 block i) (entryStatus block i))
@@ -150,15 +151,15 @@ module _ (d : Desk) (n : ℕ) (p : Passes d n) where
       }
       go false v e = stop-lasts 16 e
 
-  written-lasts : (block : Memory) (c : Done) (t : Tried RealWrites) → Lasts n (concluded d block (written (d .registers) (d .status) (d .pending) c t))
+  written-lasts : (block : Memory) (c : Done) (t : OrAlarm RealWrites) → Lasts n (concluded d block (written (d .registers) (d .status) (d .pending) c t))
   unfolding written
   written-lasts block c (got ws) = unfold concluded in go-lasts (c .registers) (c .flags) ws
   written-lasts block c (alarm k x) = enter-lasts block k (d .registers) x (d .pending) level-0
 
-  command-lasts : (block : Memory) (v : View) (t : Tried (Act SystemCall)) → Lasts n (concluded d block (ofCommand (d .registers) (d .status) (d .pending) v t))
+  command-lasts : (block : Memory) (v : View) (t : OrAlarm (Act SystemCall)) → Lasts n (concluded d block (ofCommand (d .registers) (d .status) (d .pending) v t))
   unfolding ofCommand
   command-lasts block v (got (done c)) = written-lasts block c (located v (c .writes))
-  command-lasts block v (got (does c)) = enter-lasts block 1 (c .registers) (c .argument) (d .pending) level-0
+  command-lasts block v (got (modal c)) = enter-lasts block 1 (c .registers) (c .argument) (d .pending) level-0
   command-lasts block v (alarm k x) = enter-lasts block k (d .registers) x (d .pending) level-0
 
   interrupt-lasts : (block : Memory) (k : ℕ) (c : Course) → Lasts n (concluded d block c) → Lasts n (concluded d block (interrupted k (d .registers) (d .pending) c))
@@ -166,14 +167,14 @@ module _ (d : Desk) (n : ℕ) (p : Passes d n) where
   interrupt-lasts block zero c h = h
   interrupt-lasts block (suc k) c h = enter-lasts block (16 + suc k) (d .registers) (suc k) (withoutLevel (d .pending) (suc k)) (level-0-stays (d .pending) k level-0)
 
-  kernel-written-lasts : (c : Done) (t : Tried RealWrites) → Lasts n (kernelWritten d c t)
+  kernel-written-lasts : (c : Done) (t : OrAlarm RealWrites) → Lasts n (kernelWritten d c t)
   unfolding kernelWritten
   kernel-written-lasts c (got ws) = go-lasts (c .registers) (c .flags) ws
   kernel-written-lasts c (alarm k x) = stop-lasts k
 
 module _ (d : Desk) (m : Memory) (p : Passes d (length m)) where
   resume-lasts : (a : RealAddress) → Lasts (length m) (resume d m a)
-  unfolding resume holds5
+  unfolding resume passes5
   resume-lasts a =
       by-pick (Lasts (length m)) _ _ _
       (λ t e. let u = and-true _ _ t in let w = and-true _ _ (u .0) in record {
@@ -186,11 +187,11 @@ module _ (d : Desk) (m : Memory) (p : Passes d (length m)) where
       })
       (stop-lasts d (length m) p 14)
 
-  kernel-lasts : (v : View) (t : Tried (Act KernelEffect)) → Lasts (length m) (ofKernelCommand d m v t)
+  kernel-lasts : (v : View) (t : OrAlarm (Act KernelEffect)) → Lasts (length m) (ofKernelCommand d m v t)
   unfolding ofKernelCommand
   kernel-lasts v (got (done c)) = kernel-written-lasts d (length m) p c (located v (c .writes))
-  kernel-lasts v (got (does (halts r))) = halt-lasts d (length m) p r
-  kernel-lasts v (got (does (resumes a))) = resume-lasts (record { 0 = a })
+  kernel-lasts v (got (modal (halts r))) = halt-lasts d (length m) p r
+  kernel-lasts v (got (modal (resumes x))) = resume-lasts (realOf x)
   kernel-lasts v (alarm k x) = stop-lasts d (length m) p k
 
   user-lasts : (v : View) (block : Memory) → Lasts (length m) (userStep d v block)

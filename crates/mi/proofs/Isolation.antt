@@ -10,7 +10,7 @@ use Rattle.mi.specs.Words.{pick, Memory, byteAt}
 use Rattle.mi.specs.State.{systemBlockOf}
 use Rattle.mi.specs.Map.{viewOf, RealWrites, commit, InMap}
 use Rattle.mi.specs.Steps.{Event, quiet, entered, stopped, Outcome, oneStep}
-use Rattle.mi.specs.Calls.{stepAnswerOf, stepOf, unlessRefused}
+use Rattle.mi.specs.Calls.{stepRefusal, stepOf, unlessRefused}
 use Rattle.mi.specs.Isolation.{Call, step, request, answerOf, outcomeOf, nextDesk, nextMemory, eventOf, InSystemBlock, Premise, inUserMode, oneLength, sameMap, sameSystemBlock, sameReachedFrames, mapNotWritable, Holds, Changed, Alike, AllAlike, endAt, endOf, Isolated, Demand3}
 use Rattle.mi.proofs.Writes.{Each, each-map, commit-length, commit-same, commit-other, commit-from}
 use Rattle.mi.proofs.Views.{block-same, reached-same, writable-same}

@@ -10,7 +10,7 @@ use Rattle.mi.specs.Words.{pick, Memory, byteAt}
 use Rattle.mi.specs.State.{userMode, frameAround, systemBlockOf}
 use Rattle.mi.specs.Map.{View, mapped, viewBy, viewOf, RealWrites, commit, Reached, WritableReached, InMap}
 use Rattle.mi.specs.Steps.{Outcome, oneStep}
-use Rattle.mi.specs.Calls.{stepAnswerOf, stepOf, requestOf}
+use Rattle.mi.specs.Calls.{stepRefusal, stepOf, requestOf}
 use Rattle.mi.specs.Isolation.{Call, step, request, outcomeOf}
 use Rattle.mi.proofs.Writes.{Each, each-map, commit-length, commit-same, commit-other}
 use Rattle.mi.proofs.Views.{view-same, located-writable}
@@ -44,7 +44,7 @@ module _ (o : Desk) (m : Memory) (d : Desk) where
   pub call-fit : (c : Call) (x y : Memory) → Near o m d x y → FitOutcome d (Free o m) (outcomeOf c d x)
   unfolding stepOf oneStep
   call-fit step x y h =
-      unless-fit d (Free o m) (h .kept .user) (stepAnswerOf d (length x)) _
+      unless-fit d (Free o m) (h .kept .user) (stepRefusal d (length x)) _
       (rw (h .kept .user) (user-step-fit d (Free o m) (h .kept .user) (viewOf d x) (systemBlockOf d x)
       (rw (user-view x (h .kept)) (located-writable (o .base) (o .entries) m x (h .sizex) (h .mapx)))))
   call-fit (request level) x y h = request-fit d (Free o m) (h .kept .user) level

@@ -15,7 +15,8 @@ use Rattle.mi.specs.declared.Access.{Access}
 use Rattle.mi.specs.declared.Access.the-variants.{Write}
 use Rattle.mi.specs.Words.{pick, Memory, wrap}
 use Rattle.mi.specs.State.{frameStart, userMode}
-use Rattle.mi.specs.Map.{got, alarm, pageOf, mapEntry, present, forbiddenBits, frameOf, undamaged, Found, foundAt, inFrame, allows, inNumberOrder, View, mapped, unmapped, realOf, viewBy, readFrom, writesFrom, realWritesFrom, located}
+use Rattle.mi.specs.Alarms.{got, alarm}
+use Rattle.mi.specs.Map.{pageOf, mapEntry, present, forbiddenBits, frameOf, undamaged, Found, foundAt, inFrame, allows, inNumberOrder, View, mapped, unmapped, realOf, viewBy, readFrom, writesFrom, realWritesFrom, located}
 use Rattle.mi.proofs.Widths.{and-true}
 use Rattle.mi.proofs.Views.{order-got}
 

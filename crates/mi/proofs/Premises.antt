@@ -20,7 +20,7 @@ use Rattle.mi.specs.Operands.{fieldsAt, keepsRules, byForm, operandAt, v
 use Rattle.mi.specs.Integers.{negative, signed, fits, modulo, resultOf, added, operate}
 use Rattle.mi.specs.Commands.{keptRest, stored, commonDone, knownOr12, allowedInUserMode, allowedInKernelMode, actOf, commandBy, userCommand, kernelCommand}
 use Rattle.mi.specs.Steps.{goOn, due, written, ofCommand, interrupted, userCourse, enterIf, concluded, userStep, kernelWritten, ofKernelCommand, kernelStep, oneStep}
-use Rattle.mi.specs.Calls.{holds5, holds6, firstRefused, stepAnswerOf, unlessRefused, stepOf, requestAnswer, requestOf}
+use Rattle.mi.specs.Calls.{passes5, passes6, firstRefused, stepRefusal, unlessRefused, stepOf, requestRefusal, requestOf}
 use Rattle.mi.specs.Isolation.{step, Premise, inUserMode, oneLength, sameMap, sameSystemBlock, sameReachedFrames, mapNotWritable, Holds}
 use Rattle.mi.specs.Premises.{Met, Needed, EachNeeded}
 
@@ -139,7 +139,7 @@ register i d = reg (d .registers) i
 
 -- to unfold this is to unfold all that the calls below compute with
 computing : Unit {0}
-unfolding deskAt code block filled memoryOf bytesOf wordAt allowedLength withFlags validStatus validKernelStatus isPending withLevel systemBlockOf blockFits mapEntry present writable frameOf undamaged inFrame allows inNumberOrder mapped unmapped viewBy readFrom writesFrom located commit table knownIn known fieldsAt keepsRules byForm operandAt valueIn targetIn takenBy withTaken operandsFrom negative signed fits modulo resultOf added operate keptRest stored commonDone knownOr12 allowedInUserMode allowedInKernelMode actOf commandBy userCommand kernelCommand goOn due written ofCommand interrupted userCourse enterIf concluded userStep kernelWritten ofKernelCommand kernelStep oneStep holds5 holds6 firstRefused stepAnswerOf unlessRefused stepOf requestAnswer requestOf namesFrame reaches register
+unfolding deskAt code block filled memoryOf bytesOf wordAt allowedLength withFlags validStatus validKernelStatus isPending withLevel systemBlockOf blockFits mapEntry present writable frameOf undamaged inFrame allows inNumberOrder mapped unmapped viewBy readFrom writesFrom located commit table knownIn known fieldsAt keepsRules byForm operandAt valueIn targetIn takenBy withTaken operandsFrom negative signed fits modulo resultOf added operate keptRest stored commonDone knownOr12 allowedInUserMode allowedInKernelMode actOf commandBy userCommand kernelCommand goOn due written ofCommand interrupted userCourse enterIf concluded userStep kernelWritten ofKernelCommand kernelStep oneStep passes5 passes6 firstRefused stepRefusal unlessRefused stepOf requestRefusal requestOf namesFrame reaches register
 computing = tt
 
 -- ---- All premises met

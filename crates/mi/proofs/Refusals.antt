@@ -9,7 +9,7 @@ use Rattle.mi.specs.declared.Refusal.the-variants as refusal
 use Rattle.mi.specs.declared.Answer.{Answer}
 use Rattle.mi.specs.declared.Answer.the-variants.{Accepted, Refused}
 use Rattle.mi.specs.State.{isRunning}
-use Rattle.mi.specs.Calls.{holds4, holds5, firstRefused, freshAnswer, stepAnswerOf}
+use Rattle.mi.specs.Calls.{passes4, passes5, firstRefused, freshRefusal, stepRefusal}
 
 -- the first answer that refuses
 unfoldable pub orElse : Answer → Answer → Answer
@@ -24,8 +24,8 @@ first-append ((false, k) ∷ ts) us = refl
 
 -- numbers 4, 5 and 7
 unfoldable pub laterAnswer : Desk → ℕ → Answer
-laterAnswer d n = firstRefused ((holds4 d n, refusal.Map) ∷ (holds5 d, refusal.Status) ∷ (isRunning (d .mark), refusal.Stopped) ∷ [])
+laterAnswer d n = firstRefused ((passes4 d n, refusal.Map) ∷ (passes5 d, refusal.Status) ∷ (isRunning (d .mark), refusal.Stopped) ∷ [])
 
-pub step-parts : (d : Desk) (n : ℕ) → stepAnswerOf d n ≡ orElse (freshAnswer n (d .system) (d .control)) (laterAnswer d n)
-unfolding stepAnswerOf freshAnswer laterAnswer
+pub step-parts : (d : Desk) (n : ℕ) → stepRefusal d n ≡ orElse (freshRefusal n (d .system) (d .control)) (laterAnswer d n)
+unfolding stepRefusal freshRefusal laterAnswer
 step-parts d n = first-append _ _

@@ -11,10 +11,11 @@ use Rattle.mi.specs.declared.Answer.{Answer}
 use Rattle.mi.specs.declared.Answer.the-variants.{Accepted, Refused}
 use Rattle.mi.specs.Words.{pick, Memory, bytesOf, bytesOfWords}
 use Rattle.mi.specs.State.{Registers, userMode, levelOf, flagsOf, withFlags, validKernelStatus, entryR15, entryStatus, registersFrom, savedBytes}
-use Rattle.mi.specs.Map.{Tried, got, alarm, View, VirtualWrites, RealWrites, realWritesFrom, located}
-use Rattle.mi.specs.Commands.{Done, Act, done, does, SystemCall, userCommand}
+use Rattle.mi.specs.Alarms.{OrAlarm, got, alarm}
+use Rattle.mi.specs.Map.{View, VirtualWrites, RealWrites, realWritesFrom, located}
+use Rattle.mi.specs.Commands.{Done, Act, done, modal, SystemCall, userCommand}
 use Rattle.mi.specs.Steps.{Event, quiet, entered, stopped, Outcome, stop, goOn, Course, goesOn, enters, due, written, ofCommand, interrupted, userCourse, enterIf, concluded, userStep}
-use Rattle.mi.specs.Calls.{unchanged, unlessRefused, requestAnswer, requestOf}
+use Rattle.mi.specs.Calls.{unchanged, unlessRefused, requestRefusal, requestOf}
 use Rattle.mi.proofs.Writes.{Each}
 use Rattle.mi.proofs.Views.{EachLocated}
 
@@ -58,15 +59,15 @@ FitCourse P (goesOn r s ws) = (s < 0x8000_0000) × Each P ws
 FitCourse P (enters i r x p) = Unit {0}
 
 module _ (P : ℕ → Type 0) (r : Registers) (s p : ℕ) (user : s < 0x8000_0000) where
-  written-fit : (d : Done) (q : Tried RealWrites) → EachLocated P q → FitCourse P (written r s p d q)
+  written-fit : (d : Done) (q : OrAlarm RealWrites) → EachLocated P q → FitCourse P (written r s p d q)
   unfolding written withFlags
   written-fit d (got ws) h = (omega arith, h)
   written-fit d (alarm n x) h = tt
 
-  command-fit : (v : View) (a : Tried (Act SystemCall)) → ((ws : VirtualWrites) → EachLocated P (located v ws)) → FitCourse P (ofCommand r s p v a)
+  command-fit : (v : View) (a : OrAlarm (Act SystemCall)) → ((ws : VirtualWrites) → EachLocated P (located v ws)) → FitCourse P (ofCommand r s p v a)
   unfolding ofCommand
   command-fit v (got (done d)) h = written-fit d (located v (d .writes)) (h (d .writes))
-  command-fit v (got (does c)) h = tt
+  command-fit v (got (modal c)) h = tt
   command-fit v (alarm n x) h = tt
 
   interrupt-fit : (k : ℕ) (o : Course) → FitCourse P o → FitCourse P (interrupted k r p o)
@@ -102,4 +103,4 @@ module _ (d : Desk) (P : ℕ → Type 0) (user : userMode (d .status) ≡ true) 
 
   pub request-fit : (level : ℕ) → FitOutcome d P (requestOf d level)
   unfolding requestOf
-  request-fit level = unless-fit (requestAnswer d level) _ (record { user = user; base = refl; entries = refl; system = refl; control = refl }, tt)
+  request-fit level = unless-fit (requestRefusal d level) _ (record { user = user; base = refl; entries = refl; system = refl; control = refl }, tt)

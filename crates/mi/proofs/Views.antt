@@ -16,7 +16,8 @@ use Rattle.mi.specs.declared.Access.the-variants.{Write}
 use Rattle.mi.specs.declared.Desk.{Desk}
 use Rattle.mi.specs.Words.{pick, Memory, byteAt, wordAt}
 use Rattle.mi.specs.State.{frameAround, systemBlockOf}
-use Rattle.mi.specs.Map.{Tried, got, alarm, _>>=_, pageOf, mapEntry, present, writable, frameOf, undamaged, Found, foundAt, inFrame, allows, inNumberOrder, mapped, VirtualWrites, RealWrites, located, Names, Reached, WritableReached, InMap}
+use Rattle.mi.specs.Alarms.{OrAlarm, got, alarm, _>>=_}
+use Rattle.mi.specs.Map.{pageOf, mapEntry, present, writable, frameOf, undamaged, Found, foundAt, inFrame, allows, inNumberOrder, mapped, VirtualWrites, RealWrites, located, Names, Reached, WritableReached, InMap}
 use Rattle.mi.specs.Isolation.{InSystemBlock}
 use Rattle.mi.proofs.Writes.{Each}
 
@@ -111,16 +112,16 @@ order-got true true true false x f g h = (cc, cc, cc, cc, cc)
 order-got true true true true x f g h = (refl, refl, refl, refl, cc)
 
 -- the places of writes that were located have the property P
-abbrev pub EachLocated : (ℕ → Type 0) → Tried RealWrites → Type 0
+abbrev pub EachLocated : (ℕ → Type 0) → OrAlarm RealWrites → Type 0
 EachLocated P (got ws) = Each P ws
 EachLocated P (alarm n x) = Unit {0}
 
 module _ (P : ℕ → Type 0) where
-  add-each : (f : Found) (b : ℕ) (r : Tried RealWrites) → P (f .real .0) → EachLocated P r → EachLocated P (r >>= (λ ws. got ((f .real, b) ∷ ws)))
+  add-each : (f : Found) (b : ℕ) (r : OrAlarm RealWrites) → P (f .real .0) → EachLocated P r → EachLocated P (r >>= (λ ws. got ((f .real, b) ∷ ws)))
   add-each f b (got ws) p h = (p, h)
   add-each f b (alarm n x) p h = tt
 
-  join-each : (l : Tried Found) (b : ℕ) (r : Tried RealWrites) → ((f : Found) → l ≡ got f → P (f .real .0)) → EachLocated P r
+  join-each : (l : OrAlarm Found) (b : ℕ) (r : OrAlarm RealWrites) → ((f : Found) → l ≡ got f → P (f .real .0)) → EachLocated P r
       → EachLocated P (l >>= (λ f. r >>= (λ ws. got ((f .real, b) ∷ ws))))
   join-each (alarm n x) b r p h = tt
   join-each (got f) b r p h = add-each f b r (p f refl) h

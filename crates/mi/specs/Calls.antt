@@ -41,23 +41,23 @@ answerNumber (Refused k) = refusalNumber k
 
 -- what each number asks, here that it has nothing to refuse; n is the memory's length
 
-abbrev pub holds1 : ℕ → Bool
-holds1 n = allowedLength n
+abbrev pub passes1 : ℕ → Bool
+passes1 n = allowedLength n
 
-abbrev pub holds2 : RealAddress → ℕ → Bool
-holds2 system n = blockFits system systemBlockBytes n
+abbrev pub passes2 : RealAddress → ℕ → Bool
+passes2 system n = blockFits system systemBlockBytes n
 
-abbrev pub holds3 : RealAddress → ℕ → Bool
-holds3 control n = blockFits control controlBlockBytes n
+abbrev pub passes3 : RealAddress → ℕ → Bool
+passes3 control n = blockFits control controlBlockBytes n
 
-abbrev pub holds4 : Desk → ℕ → Bool
-holds4 d n = mapFits (d .base) (d .entries) n
+abbrev pub passes4 : Desk → ℕ → Bool
+passes4 d n = mapFits (d .base) (d .entries) n
 
-unfoldable pub holds5 : Desk → Bool
-holds5 d = validStatus (d .status) && not (isPending (d .pending) 0)
+unfoldable pub passes5 : Desk → Bool
+passes5 d = validStatus (d .status) && not (isPending (d .pending) 0)
 
-unfoldable pub holds6 : ℕ → Bool
-holds6 level = leb 1 level && leb level 15
+unfoldable pub passes6 : ℕ → Bool
+passes6 level = leb 1 level && leb level 15
 
 -- "Refusals 1 to 7 are tried in number order": the first of a list whose test does not hold
 unfoldable pub firstRefused : List (Bool × Refusal) → Answer
@@ -66,9 +66,9 @@ firstRefused (t ∷ ts) = pick (t .0) (firstRefused ts) (Refused (t .1))
 
 -- ---- A fresh desk: "zero registers but a given R15, kernel mode, level 0, no map"; it "checks 1 to 3"
 
-unfoldable pub freshAnswer : ℕ → RealAddress → RealAddress → Answer
-freshAnswer n system control = firstRefused
-    ((holds1 n, refusal.MemoryLength) ∷ (holds2 system n, refusal.SystemBlock) ∷ (holds3 control n, refusal.ControlBlock) ∷ [])
+unfoldable pub freshRefusal : ℕ → RealAddress → RealAddress → Answer
+freshRefusal n system control = firstRefused
+    ((passes1 n, refusal.MemoryLength) ∷ (passes2 system n, refusal.SystemBlock) ∷ (passes3 control n, refusal.ControlBlock) ∷ [])
 
 unfoldable pub freshDesk : RealAddress → RealAddress → VirtualAddress → Desk
 freshDesk system control start = record {
@@ -100,17 +100,17 @@ freshReply Accepted d = record { answer = Accepted; desk = d }
 freshReply (Refused k) d = record { answer = Refused k; desk = zeroDesk (refusalNumber k) }
 
 unfoldable pub freshOf : ℕ → RealAddress → RealAddress → VirtualAddress → Reply
-freshOf n system control start = freshReply (freshAnswer n system control) (freshDesk system control start)
+freshOf n system control start = freshReply (freshRefusal n system control) (freshDesk system control start)
 
 -- ---- A step: refused, or one step. "Refusals return the state handed in and change no memory"
 
-unfoldable pub stepAnswerOf : Desk → ℕ → Answer
-stepAnswerOf d n = firstRefused
-    ((holds1 n, refusal.MemoryLength)
-    ∷ (holds2 (d .system) n, refusal.SystemBlock)
-    ∷ (holds3 (d .control) n, refusal.ControlBlock)
-    ∷ (holds4 d n, refusal.Map)
-    ∷ (holds5 d, refusal.Status)
+unfoldable pub stepRefusal : Desk → ℕ → Answer
+stepRefusal d n = firstRefused
+    ((passes1 n, refusal.MemoryLength)
+    ∷ (passes2 (d .system) n, refusal.SystemBlock)
+    ∷ (passes3 (d .control) n, refusal.ControlBlock)
+    ∷ (passes4 d n, refusal.Map)
+    ∷ (passes5 d, refusal.Status)
     ∷ (isRunning (d .mark), refusal.Stopped)
     ∷ [])
 
@@ -122,7 +122,7 @@ unlessRefused Accepted d o = o
 unlessRefused (Refused k) d o = unchanged d
 
 unfoldable pub stepOf : Desk → Memory → Outcome
-stepOf d m = unlessRefused (stepAnswerOf d (length m)) d (oneStep d m)
+stepOf d m = unlessRefused (stepRefusal d (length m)) d (oneStep d m)
 
 -- the answer in the code's terms
 abbrev pub eventAnswer : Event → StepAnswer
@@ -148,24 +148,24 @@ pub record Stepped : Type 0 where
 
 unfoldable pub steppedOf : Desk → Memory → Stepped
 steppedOf d m = record {
-  reply = record { answer = stepAnswered (stepAnswerOf d (length m)) ((stepOf d m) .event); desk = (stepOf d m) .desk };
+  reply = record { answer = stepAnswered (stepRefusal d (length m)) ((stepOf d m) .event); desk = (stepOf d m) .desk };
   memory = commit ((stepOf d m) .writes) m;
 }
 
 -- ---- A level request: it "tries only 5 and 6; otherwise it sets that bit, on a stopped desk too"
 
-unfoldable pub requestAnswer : Desk → ℕ → Answer
-requestAnswer d level = firstRefused ((holds5 d, refusal.Status) ∷ (holds6 level, refusal.Level) ∷ [])
+unfoldable pub requestRefusal : Desk → ℕ → Answer
+requestRefusal d level = firstRefused ((passes5 d, refusal.Status) ∷ (passes6 level, refusal.Level) ∷ [])
 
 unfoldable pub requestOf : Desk → ℕ → Outcome
-requestOf d level = unlessRefused (requestAnswer d level) d (record {
+requestOf d level = unlessRefused (requestRefusal d level) d (record {
   desk = deskWith d (d .registers) (d .status) (withLevel (d .pending) level) (d .mark);
   event = quiet;
   writes = [];
 })
 
 unfoldable pub requestedOf : Desk → ℕ → Reply
-requestedOf d level = record { answer = requestAnswer d level; desk = (requestOf d level) .desk }
+requestedOf d level = record { answer = requestRefusal d level; desk = (requestOf d level) .desk }
 
 -- ---- A run: "those steps, one after another, up to n or a stop"; it "answers with its step count, entries and stopping steps included, 0 when refused"
 
@@ -186,4 +186,4 @@ runUnless Accepted d m o = o
 runUnless (Refused k) d m o = ran (Refused k) 0 d m
 
 unfoldable pub runOf : ℕ → Desk → Memory → Ran
-runOf n d m = runUnless (stepAnswerOf d (length m)) d m (stepsOf n 0 d m)
+runOf n d m = runUnless (stepRefusal d (length m)) d m (stepsOf n 0 d m)

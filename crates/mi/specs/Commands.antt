@@ -6,13 +6,15 @@ use mathlib.Core.List.{[], _∷_, _++_}
 use mathlib.Core.Option.{Option, none, some}
 use lib.Dec.{eqb}
 use lib.ListN.{set}
+use Rattle.mi.specs.declared.VirtualAddress.{VirtualAddress}
 use Rattle.mi.specs.declared.Access.the-variants.{Fetch, Read}
 use Rattle.mi.specs.declared.Target.{Target}
 use Rattle.mi.specs.declared.Target.the-variants.{Nowhere, Register, Memory}
 use Rattle.mi.specs.declared.Result.{Result}
 use Rattle.mi.specs.Words.{pick, lengthOf, span, bytesOf, raised, lowered}
 use Rattle.mi.specs.State.{Registers, reg, flagN, flagZ, flagV, flagC}
-use Rattle.mi.specs.Map.{Tried, got, alarm, _>>=_, View, readBytes, VirtualWrites, writesFrom}
+use Rattle.mi.specs.Alarms.{OrAlarm, got, alarm, _>>=_}
+use Rattle.mi.specs.Map.{View, readBytes, VirtualWrites, writesFrom}
 use Rattle.mi.specs.Code.{Condition, JUMP, JEQ, JNE, JGT, JGE, JLT, JLE, JV, JC, Common, result, CMP, PUSHR, POPR, jump, CALL, RET, UserOnly, systemCall, KernelOnly, HALT, RESUME, Command, common, userOnly, kernelOnly, Known, known}
 use Rattle.mi.specs.Operands.{virtual, past, Operands, operandsOf}
 use Rattle.mi.specs.Integers.{natural, operate, compared}
@@ -48,7 +50,7 @@ pushed (suc i) sp r ws f =
     pushed i low r (writesFrom low (bytesOf 4 (pick (eqb i 14) low (reg r i))) ++ ws) f
 
 -- POPR: "for i := 0 to 14 do Ri := S[SP]; SP := SP + 4", here n turns from i on
-unfoldable pub popped : View → ℕ → ℕ → Registers → Tried Registers
+unfoldable pub popped : View → ℕ → ℕ → Registers → OrAlarm Registers
 popped v zero i r = got r
 popped v (suc n) i r = do
   w ← readBytes v Read 4 (virtual (reg r 14))
@@ -66,20 +68,20 @@ returned w r f = record { registers = set (set r 15 w) 14 (raised (reg r 14) 4);
 
 -- ---- Jumps
 
-unfoldable pub holds : Condition → ℕ → Bool
-holds JUMP f = true
-holds JEQ f = flagZ f
-holds JNE f = not (flagZ f)
-holds JGT f = not (flagN f || flagZ f)
-holds JGE f = not (flagN f)
-holds JLT f = flagN f
-holds JLE f = flagN f || flagZ f
-holds JV f = flagV f
-holds JC f = flagC f
+unfoldable pub jumps : Condition → ℕ → Bool
+jumps JUMP f = true
+jumps JEQ f = flagZ f
+jumps JNE f = not (flagZ f)
+jumps JGT f = not (flagN f || flagZ f)
+jumps JGE f = not (flagN f)
+jumps JLT f = flagN f
+jumps JLE f = flagN f || flagZ f
+jumps JV f = flagV f
+jumps JC f = flagC f
 
 -- ---- Commands that both modes allow, with flags f before and operands o
 
-unfoldable pub commonDone : Common → View → ℕ → Operands → Tried Done
+unfoldable pub commonDone : Common → View → ℕ → Operands → OrAlarm Done
 commonDone (result op s) v f o = do
   x ← operate op (lengthOf s) (natural (lengthOf s) (o .first)) (natural (lengthOf s) (o .second))
   got (stored (lengthOf s) x (o .target) (o .registers))
@@ -88,7 +90,7 @@ commonDone PUSHR v f o = got (pushed 15 (reg (o .registers) 14) (o .registers) [
 commonDone POPR v f o = do
   r ← popped v 15 0 (o .registers)
   got (record { registers = r; flags = f; writes = [] })
-commonDone (jump c) v f o = got (record { registers = pick (holds c f) (set (o .registers) 15 (o .first)) (o .registers); flags = f; writes = [] })
+commonDone (jump c) v f o = got (record { registers = pick (jumps c f) (set (o .registers) 15 (o .first)) (o .registers); flags = f; writes = [] })
 commonDone CALL v f o = got (called (o .first) (o .registers) f)
 commonDone RET v f o = do
   w ← readBytes v Read 4 (virtual (reg (o .registers) 14))
@@ -97,7 +99,7 @@ commonDone RET v f o = do
 -- ---- The command at R15
 
 -- 12: "the command byte is unknown"; its argument is the command byte
-unfoldable pub knownOr12 : ℕ → Option Known → Tried Known
+unfoldable pub knownOr12 : ℕ → Option Known → OrAlarm Known
 knownOr12 b none = alarm 12 b
 knownOr12 b (some k) = got k
 
@@ -107,12 +109,12 @@ pub data Allowed (S : Type 0) : Type 0 where
   only : S → Allowed S
 
 -- 13: "HALT or RESUME in user mode, or a system call in kernel mode"; its argument is the command byte
-unfoldable pub allowedInUserMode : ℕ → Command → Tried (Allowed UserOnly)
+unfoldable pub allowedInUserMode : ℕ → Command → OrAlarm (Allowed UserOnly)
 allowedInUserMode b (common c) = got (both c)
 allowedInUserMode b (userOnly s) = got (only s)
 allowedInUserMode b (kernelOnly s) = alarm 13 b
 
-unfoldable pub allowedInKernelMode : ℕ → Command → Tried (Allowed KernelOnly)
+unfoldable pub allowedInKernelMode : ℕ → Command → OrAlarm (Allowed KernelOnly)
 allowedInKernelMode b (common c) = got (both c)
 allowedInKernelMode b (userOnly s) = alarm 13 b
 allowedInKernelMode b (kernelOnly s) = got (only s)
@@ -120,16 +122,16 @@ allowedInKernelMode b (kernelOnly s) = got (only s)
 -- what it comes to: it is done, or does what only this mode's commands do, E
 pub data Act (E : Type 0) : Type 0 where
   done : Done → Act E
-  does : E → Act E
+  modal : E → Act E
 
-unfoldable pub actOf : {S E : Type 0} → (S → Operands → E) → Allowed S → View → ℕ → Operands → Tried (Act E)
+unfoldable pub actOf : {S E : Type 0} → (S → Operands → E) → Allowed S → View → ℕ → Operands → OrAlarm (Act E)
 actOf effect (both c) v f o = do
   d ← commonDone c v f o
   got (done d)
-actOf effect (only s) v f o = got (does (effect s o))
+actOf effect (only s) v f o = got (modal (effect s o))
 
 -- the order inside a command
-unfoldable pub commandBy : {S E : Type 0} → (ℕ → Command → Tried (Allowed S)) → (S → Operands → E) → View → Registers → ℕ → Tried (Act E)
+unfoldable pub commandBy : {S E : Type 0} → (ℕ → Command → OrAlarm (Allowed S)) → (S → Operands → E) → View → Registers → ℕ → OrAlarm (Act E)
 commandBy mode effect v r f = do
   b ← readBytes v Fetch 1 (virtual (reg r 15))
   k ← knownOr12 b (known b)
@@ -145,17 +147,17 @@ pub record SystemCall : Type 0 where
 unfoldable pub userEffect : UserOnly → Operands → SystemCall
 userEffect systemCall o = record { argument = o .first; registers = o .registers }
 
-unfoldable pub userCommand : View → Registers → ℕ → Tried (Act SystemCall)
+unfoldable pub userCommand : View → Registers → ℕ → OrAlarm (Act SystemCall)
 userCommand v r f = commandBy allowedInUserMode userEffect v r f
 
--- HALT ends with R15 past it; RESUME names a control block
+-- HALT ends with R15 past it; RESUME names a control block by its address
 pub data KernelEffect : Type 0 where
   halts : Registers → KernelEffect
-  resumes : ℕ → KernelEffect
+  resumes : VirtualAddress → KernelEffect
 
 unfoldable pub kernelEffect : KernelOnly → Operands → KernelEffect
 kernelEffect HALT o = halts (o .registers)
-kernelEffect RESUME o = resumes (o .first)
+kernelEffect RESUME o = resumes (record { 0 = o .first })
 
-unfoldable pub kernelCommand : View → Registers → ℕ → Tried (Act KernelEffect)
+unfoldable pub kernelCommand : View → Registers → ℕ → OrAlarm (Act KernelEffect)
 kernelCommand v r f = commandBy allowedInKernelMode kernelEffect v r f

@@ -9,7 +9,7 @@ use lib.Bits.{bitAnd, bitOr, bitXor}
 use Rattle.mi.specs.declared.Result.{Result}
 use Rattle.mi.specs.Words.{pick, span}
 use Rattle.mi.specs.State.{flags}
-use Rattle.mi.specs.Map.{Tried, got, alarm}
+use Rattle.mi.specs.Alarms.{OrAlarm, got, alarm}
 use Rattle.mi.specs.Code.{Operation, MOVE, CLEAR, MOVEN, MOVEC, MOVEA, CONV, OR, ANDNOT, XOR, ADD, SUB, MULT, DIV, SH, ROT}
 
 -- ---- Numbers
@@ -95,7 +95,7 @@ unfoldable pub rotated : ℕ → ℕ → Result
 rotated a b = let n = modulo 32 (signed 4 a) in plain 4 ((b * 2 ^ n + b / 2 ^ (32 - n)) % span 4)
 
 -- 15: "DIV by zero", its argument zero
-unfoldable pub operate : Operation → ℕ → ℕ → ℕ → Tried Result
+unfoldable pub operate : Operation → ℕ → ℕ → ℕ → OrAlarm Result
 operate MOVE L a b = got (plain L a)
 operate CLEAR L a b = got (plain L 0)
 operate MOVEN L a b = got (subtracted L a 0)

@@ -16,7 +16,7 @@ use Rattle.mi.specs.Words.{Memory, byteAt}
 use Rattle.mi.specs.State.{userMode, frameAround, systemBlockBytes}
 use Rattle.mi.specs.Map.{Reached, WritableReached, InMap, commit}
 use Rattle.mi.specs.Steps.{Event, quiet, entered, stopped, Outcome}
-use Rattle.mi.specs.Calls.{stepAnswerOf, stepOf, requestAnswer, requestOf}
+use Rattle.mi.specs.Calls.{stepRefusal, stepOf, requestRefusal, requestOf}
 
 -- ---- The list: "single steps and level requests, with any number as the level, in any order and of any length"
 
@@ -25,8 +25,8 @@ pub data Call : Type 0 where
   request : ℕ → Call
 
 abbrev pub answerOf : Call → Desk → Memory → Answer
-answerOf step d m = stepAnswerOf d (length m)
-answerOf (request level) d m = requestAnswer d level
+answerOf step d m = stepRefusal d (length m)
+answerOf (request level) d m = requestRefusal d level
 
 abbrev pub outcomeOf : Call → Desk → Memory → Outcome
 outcomeOf step d m = stepOf d m

@@ -4,6 +4,8 @@
 pub mod Words
 -- What the desk holds
 pub mod State
+-- a value, or an alarm
+pub mod Alarms
 -- Map: entries, the lookup of one byte, reached frames
 pub mod Map
 -- Code: the table of command bytes

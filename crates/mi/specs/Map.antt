@@ -13,19 +13,8 @@ use Rattle.mi.specs.declared.Access.{Access}
 use Rattle.mi.specs.declared.Access.the-variants.{Fetch, Read, Write}
 use Rattle.mi.specs.declared.Desk.{Desk}
 use Rattle.mi.specs.Words.{pick, Memory, byteAt, wordAt, wrap}
+use Rattle.mi.specs.Alarms.{OrAlarm, got, alarm, _>>=_}
 use Rattle.mi.specs.State.{frameStart, userMode}
-
--- ---- What was tried: a value, or an alarm with its number and argument
-
-pub data Tried (A : Type 0) : Type 0 where
-  got : A → Tried A
-  alarm : ℕ → ℕ → Tried A
-
--- go on with the value; the first alarm ends it
-infixl 10 _>>=_
-abbrev pub _>>=_ : {A B : Type 0} → Tried A → (A → Tried B) → Tried B
-got a >>= f = f a
-alarm n x >>= f = alarm n x
 
 -- ---- Map entries
 
@@ -79,7 +68,7 @@ allows Write e = writable e
 
 -- "For one byte 8 to 11 are tried in number order"; their argument is "the byte's address". The tests: the page is below the map length, the entry present,
 -- undamaged, and open to the access
-unfoldable pub inNumberOrder : Bool → Bool → Bool → Bool → VirtualAddress → Found → Tried Found
+unfoldable pub inNumberOrder : Bool → Bool → Bool → Bool → VirtualAddress → Found → OrAlarm Found
 inNumberOrder false there whole allowed x f = alarm 8 (x .0)
 inNumberOrder true false whole allowed x f = alarm 9 (x .0)
 inNumberOrder true true false allowed x f = alarm 10 (x .0)
@@ -88,7 +77,7 @@ inNumberOrder true true true true x f = got f
 
 -- what a command sees of the memory: for each address and reason the byte, or an alarm
 abbrev pub View : Type 0
-View = VirtualAddress → Access → Tried Found
+View = VirtualAddress → Access → OrAlarm Found
 
 -- user mode
 unfoldable pub mapped : RealAddress → ℕ → Memory → View
@@ -113,13 +102,13 @@ viewOf d m = viewBy (d .status) (d .base) (d .entries) m
 -- ---- Several bytes
 
 -- L bytes from an address on, highest first, after those that make up acc
-unfoldable pub readFrom : View → Access → ℕ → ℕ → ℕ → Tried ℕ
+unfoldable pub readFrom : View → Access → ℕ → ℕ → ℕ → OrAlarm ℕ
 readFrom v w zero a acc = got acc
 readFrom v w (suc L) a acc = do
   f ← v (record { 0 = wrap a }) w
   readFrom v w L (a + 1) (acc * 256 + f .byte)
 
-abbrev pub readBytes : View → Access → ℕ → VirtualAddress → Tried ℕ
+abbrev pub readBytes : View → Access → ℕ → VirtualAddress → OrAlarm ℕ
 readBytes v w L x = readFrom v w L (x .0) 0
 
 -- what a command writes, in order
@@ -140,7 +129,7 @@ realWritesFrom a [] = []
 realWritesFrom a (b ∷ bs) = (record { 0 = a }, b) ∷ realWritesFrom (suc a) bs
 
 -- each write looked up, or the first alarm
-unfoldable pub located : View → VirtualWrites → Tried RealWrites
+unfoldable pub located : View → VirtualWrites → OrAlarm RealWrites
 located v [] = got []
 located v (w ∷ ws) = do
   f ← v (w .0) Write

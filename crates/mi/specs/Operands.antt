@@ -12,7 +12,8 @@ use Rattle.mi.specs.declared.Target.{Target}
 use Rattle.mi.specs.declared.Target.the-variants.{Nowhere, Register, Memory}
 use Rattle.mi.specs.Words.{pick, lengthOf, span, wrap, raised, lowered}
 use Rattle.mi.specs.State.{Registers, reg}
-use Rattle.mi.specs.Map.{Tried, got, alarm, _>>=_, View, readBytes}
+use Rattle.mi.specs.Alarms.{OrAlarm, got, alarm, _>>=_}
+use Rattle.mi.specs.Map.{View, readBytes}
 use Rattle.mi.specs.Code.{Rule}
 
 -- ---- "each operand has six: form, register pair (x in the high four bits, y in the low), and a word z"
@@ -28,7 +29,7 @@ abbrev pub virtual : ℕ → VirtualAddress
 virtual a = record { 0 = wrap a }
 
 -- the six bytes from address a on, fetched upward
-unfoldable pub fieldsAt : View → ℕ → Tried Fields
+unfoldable pub fieldsAt : View → ℕ → OrAlarm Fields
 fieldsAt v a = do
   form ← readBytes v Fetch 1 (virtual a)
   pair ← readBytes v Fetch 1 (virtual (a + 1))
@@ -64,16 +65,16 @@ pub record Operand : Type 0 where
   pub location : Location
   pub registers : Registers
 
-abbrev pub at : Location → Registers → Tried Operand
+abbrev pub at : Location → Registers → OrAlarm Operand
 at l r = got (record { location = l; registers = r })
 
 -- the word at an address
-abbrev pub wordBehind : View → ℕ → Tried ℕ
+abbrev pub wordBehind : View → ℕ → OrAlarm ℕ
 wordBehind v a = readBytes v Read 4 (virtual a)
 
 -- by form, for an operand of L bytes: 0 z; 1 the value z; 2 register x; 3 z + Rx; 4 z + Rx + Ry × L; 5 the word at z + Rx; 6 that word + Ry × L;
 -- 7 Rx lowered by L, then address Rx; 8 address Rx, then Rx raised by L
-unfoldable pub byForm : View → ℕ → Registers → Fields → Tried Operand
+unfoldable pub byForm : View → ℕ → Registers → Fields → OrAlarm Operand
 byForm v L r k =
     let rx = reg r (k .x) in
     let ry = reg r (k .y) in
@@ -93,7 +94,7 @@ abbrev pub past : ℕ → Registers → Registers
 past n r = set r 15 (raised (reg r 15) n)
 
 -- "fetch, form, address" of the operand at R15: "Inside an operand R15 is the address just after its six bytes". 14's argument is "the operand's place from 1"
-unfoldable pub operandAt : View → ℕ → ℕ → Registers → Tried Operand
+unfoldable pub operandAt : View → ℕ → ℕ → Registers → OrAlarm Operand
 operandAt v place L r = do
   k ← fieldsAt v (reg r 15)
   pick (keepsRules L k) (byForm v L (past 6 r) k) (alarm 14 place)
@@ -101,19 +102,19 @@ operandAt v place L r = do
 -- ---- What a role takes from an operand
 
 -- "reading where its value is used"; "B and H in a register are its low end"
-unfoldable pub valueIn : View → ℕ → Registers → Location → Tried ℕ
+unfoldable pub valueIn : View → ℕ → Registers → Location → OrAlarm ℕ
 valueIn v L r (immediate z) = got z
 valueIn v L r (register x) = got (reg r x % span L)
 valueIn v L r (memory a) = readBytes v Read L a
 
 -- "forms 1 and 2 have no address"
-unfoldable pub addressIn : ℕ → Location → Tried ℕ
+unfoldable pub addressIn : ℕ → Location → OrAlarm ℕ
 addressIn place (immediate z) = alarm 14 place
 addressIn place (register x) = alarm 14 place
 addressIn place (memory a) = got (a .0)
 
 -- where a result goes: "Form 1 is no destination"
-unfoldable pub targetIn : ℕ → Location → Tried Target
+unfoldable pub targetIn : ℕ → Location → OrAlarm Target
 targetIn place (immediate z) = alarm 14 place
 targetIn place (register x) = got (Register x)
 targetIn place (memory a) = got (Memory a)
@@ -123,10 +124,10 @@ pub record Taken : Type 0 where
   pub number : ℕ
   pub target : Target
 
-abbrev pub taken : ℕ → Target → Tried Taken
+abbrev pub taken : ℕ → Target → OrAlarm Taken
 taken n t = got (record { number = n; target = t })
 
-unfoldable pub takenBy : View → ℕ → ℕ → Operand → Role → Tried Taken
+unfoldable pub takenBy : View → ℕ → ℕ → Operand → Role → OrAlarm Taken
 takenBy v place L p Value = do
   n ← valueIn v L (p .registers) (p .location)
   taken n Nowhere
@@ -160,12 +161,12 @@ withTaken place o t r = record {
 }
 
 -- from the operand at that place on, after those that gave o
-unfoldable pub operandsFrom : View → ℕ → List Rule → Operands → Tried Operands
+unfoldable pub operandsFrom : View → ℕ → List Rule → Operands → OrAlarm Operands
 operandsFrom v place [] o = got o
 operandsFrom v place (k ∷ ks) o = do
   p ← operandAt v place (lengthOf (k .size)) (o .registers)
   t ← takenBy v place (lengthOf (k .size)) p (k .role)
   operandsFrom v (suc place) ks (withTaken place o t (p .registers))
 
-abbrev pub operandsOf : View → List Rule → Registers → Tried Operands
+abbrev pub operandsOf : View → List Rule → Registers → OrAlarm Operands
 operandsOf v ks r = operandsFrom v 1 ks (record { first = 0; second = 0; target = Nowhere; registers = r })

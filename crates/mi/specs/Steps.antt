@@ -11,8 +11,9 @@ use Rattle.mi.specs.declared.Mark.the-variants.{Stopped}
 use Rattle.mi.specs.declared.Desk.{Desk}
 use Rattle.mi.specs.Words.{pick, Memory, wordAt, wordsAt}
 use Rattle.mi.specs.State.{Registers, userMode, levelOf, flagsOf, withFlags, validUserStatus, validKernelStatus, isPending, withoutLevel, systemBlockOf, entryR15, entryStatus, controlBlockBytes, savedBytes, blockFits, mapFits, deskWith}
-use Rattle.mi.specs.Map.{Tried, got, alarm, View, viewOf, RealWrites, realWritesFrom, located}
-use Rattle.mi.specs.Commands.{Done, Act, done, does, SystemCall, userCommand, KernelEffect, halts, resumes, kernelCommand}
+use Rattle.mi.specs.Alarms.{OrAlarm, got, alarm}
+use Rattle.mi.specs.Map.{View, realOf, viewOf, RealWrites, realWritesFrom, located}
+use Rattle.mi.specs.Commands.{Done, Act, done, modal, SystemCall, userCommand, KernelEffect, halts, resumes, kernelCommand}
 
 -- ---- What a step shows
 
@@ -55,14 +56,14 @@ due zero p l = 0
 due (suc k) p l = pick (isPending p (suc k) && ltb l (suc k)) (suc k) (due k p l)
 
 -- "An alarm undoes the command's register changes and writes nothing": it saves the registers r from the command's start
-unfoldable pub written : Registers → ℕ → ℕ → Done → Tried RealWrites → Course
+unfoldable pub written : Registers → ℕ → ℕ → Done → OrAlarm RealWrites → Course
 written r s p d (got ws) = goesOn (d .registers) (withFlags s (d .flags)) ws
 written r s p d (alarm n x) = enters n r x p
 
 -- cause "1 for a system call (argument its value, saved R15 the next command)", "the alarm number otherwise (saved R15 the command's own address)"
-unfoldable pub ofCommand : Registers → ℕ → ℕ → View → Tried (Act SystemCall) → Course
+unfoldable pub ofCommand : Registers → ℕ → ℕ → View → OrAlarm (Act SystemCall) → Course
 ofCommand r s p v (got (done d)) = written r s p d (located v (d .writes))
-ofCommand r s p v (got (does c)) = enters 1 (c .registers) (c .argument) p
+ofCommand r s p v (got (modal c)) = enters 1 (c .registers) (c .argument) p
 ofCommand r s p v (alarm n x) = enters n r x p
 
 -- "the highest pending level above the status level is entered and its pending bit cleared": cause "16 + level", "argument the level"
@@ -109,14 +110,14 @@ resume d m a =
     })
     (stop 14 d)
 
-unfoldable pub kernelWritten : Desk → Done → Tried RealWrites → Outcome
+unfoldable pub kernelWritten : Desk → Done → OrAlarm RealWrites → Outcome
 kernelWritten d c (got ws) = goOn (c .registers) (withFlags (d .status) (c .flags)) ws d
 kernelWritten d c (alarm n x) = stop n d
 
-unfoldable pub ofKernelCommand : Desk → Memory → View → Tried (Act KernelEffect) → Outcome
+unfoldable pub ofKernelCommand : Desk → Memory → View → OrAlarm (Act KernelEffect) → Outcome
 ofKernelCommand d m v (got (done c)) = kernelWritten d c (located v (c .writes))
-ofKernelCommand d m v (got (does (halts r))) = halt r d
-ofKernelCommand d m v (got (does (resumes a))) = resume d m (record { 0 = a })
+ofKernelCommand d m v (got (modal (halts r))) = halt r d
+ofKernelCommand d m v (got (modal (resumes x))) = resume d m (realOf x)
 ofKernelCommand d m v (alarm n x) = stop n d
 
 unfoldable pub kernelStep : Desk → View → Memory → Outcome

@@ -12,7 +12,8 @@ use Rattle.mi.specs.declared.Target.{Target}
 use Rattle.mi.specs.declared.Target.the-variants.{Nowhere}
 use Rattle.mi.specs.Words.{lengthOf}
 use Rattle.mi.specs.State.{Registers}
-use Rattle.mi.specs.Map.{Tried, got, alarm, _>>=_, View}
+use Rattle.mi.specs.Alarms.{OrAlarm, got, alarm, _>>=_}
+use Rattle.mi.specs.Map.{View}
 use Rattle.mi.specs.Operands.{operandAt, Taken, taken, takenBy, Operands, withTaken, operandsFrom, operandsOf}
 use Rattle.codes.specs.Rules.{sizeIn, roleIn, rulesFrom, rulesIn}
 use Rattle.operands.specs.declared.Spot.{Spot}
@@ -22,8 +23,8 @@ use Rattle.operands.specs.declared.Took.the-variants as took
 use Rattle.operands.specs.Answers.{spotAs, takenFrom, tookAs}
 
 -- one operand, and what follows it
-module _ (v : View) (place L : ℕ) (role : Role) (then : Taken → Registers → Tried Operands) where
-  one : Spot → Registers → Tried Operands
+module _ (v : View) (place L : ℕ) (role : Role) (then : Taken → Registers → OrAlarm Operands) where
+  one : Spot → Registers → OrAlarm Operands
   one p r = spotAs p r >>= (λ q. takenBy v place L q role >>= (λ t. then t (q .registers)))
 
   one-taken : (p : Spot) (r : Registers) (n : ℕ) (t : Target) → taken n t ≡ takenFrom v place L role (spotAs p r) → one p r ≡ then (record { number = n; target = t }) r
@@ -41,7 +42,7 @@ module _ (v : View) (place L : ℕ) (role : Role) (then : Taken → Registers �
   one-alarm (spot.Alarm k y) r n x h = cc
 
 -- from operand `place` on, after those that gave o, the operands that are left give what all of them give
-pub record Left (v : View) (place rules : ℕ) (o : Operands) (whole : Tried Operands) : Type 0 where
+pub record Left (v : View) (place rules : ℕ) (o : Operands) (whole : OrAlarm Operands) : Type 0 where
   pub count : ℕ
   pub near : place + count ≡ 5
   pub small : rules < 16 ^ count
@@ -56,7 +57,7 @@ unfolding rulesFrom
 no-rules zero = refl
 no-rules (suc k) = refl
 
-module _ (v : View) (place rules : ℕ) (o : Operands) (whole : Tried Operands) (l : Left v place rules o whole) where
+module _ (v : View) (place rules : ℕ) (o : Operands) (whole : OrAlarm Operands) (l : Left v place rules o whole) where
   pub none-left : rules ≡ 0 → got o ≡ whole
   unfolding operandsFrom
   none-left e = rw (e, no-rules) at (l .same)
@@ -64,7 +65,7 @@ module _ (v : View) (place rules : ℕ) (o : Operands) (whole : Tried Operands) 
   module _ (more : 0 < rules) (size : Size) (of-size : size ≡ sizeIn rules) (role : Role) (of-role : role ≡ roleIn rules) (p : Spot) (r : Registers)
       (found : spotAs p r ≡ operandAt v place (lengthOf size) (o .registers)) (t : Took) (took-it : tookAs t ≡ takenFrom v place (lengthOf size) role (spotAs p r)) where
     -- what follows the operand, by k rules at most
-    after : ℕ → Taken → Registers → Tried Operands
+    after : ℕ → Taken → Registers → OrAlarm Operands
     after k n r = operandsFrom v (suc place) (rulesFrom k (rules / 16)) (withTaken place o n r)
 
     by-one : (k : ℕ) → operandsFrom v place (rulesFrom (suc k) rules) o ≡ one v place (lengthOf size) role (after k) p r

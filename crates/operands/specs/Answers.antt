@@ -7,7 +7,8 @@ use Rattle.mi.specs.Words.{pick}
 use Rattle.mi.specs.State.{Registers}
 use Rattle.mi.specs.declared.Target.{Target}
 use Rattle.mi.specs.declared.Target.the-variants as target
-use Rattle.mi.specs.Map.{Tried, got, alarm, _>>=_, View}
+use Rattle.mi.specs.Alarms.{OrAlarm, got, alarm, _>>=_}
+use Rattle.mi.specs.Map.{View}
 use Rattle.mi.specs.Operands.{Fields, virtual, keepsRules, immediate, register, memory, Operand, at, byForm, valueIn, Taken, taken, takenBy, Operands as Given}
 use Rattle.access.specs.declared.Got.{Got}
 use Rattle.access.specs.Answers.{gotAs}
@@ -19,7 +20,7 @@ use Rattle.operands.specs.declared.Operands.{Operands}
 use Rattle.operands.specs.declared.Operands.the-variants as operands
 
 -- an operand, over the registers that it leaves
-abbrev pub spotAs : Spot → Registers → Tried Operand
+abbrev pub spotAs : Spot → Registers → OrAlarm Operand
 spotAs (spot.Immediate z) r = at (immediate z) r
 spotAs (spot.Register x) r = at (register x) r
 spotAs (spot.Memory a) r = at (memory a) r
@@ -38,21 +39,21 @@ pub record Behind (p : Spot) (w : Got) (more : ℕ) : Type 0 where
   pub small : SmallSpot p
 
 -- form and address of an operand, from its fields
-abbrev pub formed : View → ℕ → ℕ → Registers → Fields → Tried Operand
+abbrev pub formed : View → ℕ → ℕ → Registers → Fields → OrAlarm Operand
 formed v place L r k = pick (keepsRules L k) (byForm v L r k) (alarm 14 place)
 
 -- the value of an operand
-abbrev pub valueFrom : View → ℕ → Tried Operand → Tried ℕ
+abbrev pub valueFrom : View → ℕ → OrAlarm Operand → OrAlarm ℕ
 valueFrom v L p = p >>= (λ o. valueIn v L (o .registers) (o .location))
 
-abbrev pub takenWith : Tried ℕ → Target → Tried Taken
+abbrev pub takenWith : OrAlarm ℕ → Target → OrAlarm Taken
 takenWith v t = v >>= (λ n. taken n t)
 
 -- what a role takes from an operand
-abbrev pub takenFrom : View → ℕ → ℕ → Role → Tried Operand → Tried Taken
+abbrev pub takenFrom : View → ℕ → ℕ → Role → OrAlarm Operand → OrAlarm Taken
 takenFrom v place L k p = p >>= (λ o. takenBy v place L o k)
 
-abbrev pub tookAs : Took → Tried Taken
+abbrev pub tookAs : Took → OrAlarm Taken
 tookAs (took.Got n t) = taken n t
 tookAs (took.Alarm n x) = alarm n x
 
@@ -73,7 +74,7 @@ pub record TakesAddress (t : Took) (place : ℕ) (p : Spot) : Type 0 where
 pub record TakesDestination (t : Took) (place : ℕ) (p : Spot) : Type 0 where
   pub same : (v : View) (L : ℕ) (r : Registers) → tookAs t ≡ takenFrom v place L Destination (spotAs p r)
 
-abbrev pub operandsAs : Operands → Registers → Tried Given
+abbrev pub operandsAs : Operands → Registers → OrAlarm Given
 operandsAs (operands.Ready a b t) r = got (record { first = a; second = b; target = t; registers = r })
 operandsAs (operands.Alarm n x) r = alarm n x
 

@@ -2,7 +2,7 @@
 use mathlib.Core.Path.{_∙_, sym, ap}
 use native.Mathlib.Omega.{arith}
 use borrow.Author.Needs.{needs}
-use Rattle.mi.specs.Map.{got}
+use Rattle.mi.specs.Alarms.{got}
 use Rattle.mi.proofs.Pages.{read-alarm}
 use Rattle.access.proofs.Seats.{seat-found, seat-alarm, seat-inside}
 use Rattle.access.proofs.OneLookup.{one-byte-value, read-page}

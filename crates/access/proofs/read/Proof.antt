@@ -2,7 +2,7 @@
 use mathlib.Core.Path.{_∙_, sym, ap}
 use native.Mathlib.Omega.{arith}
 use borrow.Author.Needs.{needs}
-use Rattle.mi.specs.Map.{got}
+use Rattle.mi.specs.Alarms.{got}
 use Rattle.mi.proofs.Pages.{read-alarm, page-inside}
 use Rattle.access.proofs.Seats.{seat-found, seat-alarm}
 use Rattle.access.proofs.OneLookup.{length-bounds, read-page}
@@ -53,8 +53,17 @@ read-bytewise-requires c κs =
     let start = c .before .before .before .before in
     (start .pre, omega (arith, length-bounds (start .args .size)))
 
+enum-known-w : tie.Need-enum-known-w
+enum-known-w c = search needs
+
+enum-known-w-2 : tie.Need-enum-known-w-2
+enum-known-w-2 c = search needs
+
 returns-3 : tie.Need-returns-3
-returns-3 c = rw (← c .before .before .before .length .ensures) (c .read-bytewise .ensures .0)
+returns-3 c = rw (← c .before .before .before .before .before .before .length .ensures) (rw (c .before .w .given .1) at (c .before .before .before .read-bytewise .ensures .0))
+
+returns-4 : tie.Need-returns-4
+returns-4 c = rw (← c .before .before .before .before .before .before .length .ensures) (rw (c .before .w2 .given .1) at (c .before .before .before .read-bytewise .ensures .0))
 
 pub read-spec : {M : Type 1} → statement M
 read-spec =
@@ -71,4 +80,7 @@ read-spec =
     returns-2
     cast-read-bytewise
     read-bytewise-requires
-    returns-3)
+    enum-known-w
+    enum-known-w-2
+    returns-3
+    returns-4)

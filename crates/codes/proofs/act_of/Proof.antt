@@ -12,7 +12,7 @@ use Rattle.mi.specs.declared.Size.{Size}
 use Rattle.mi.specs.Words.{sizeAt}
 use Rattle.mi.specs.Code.{MOVE, CLEAR, MOVEN, MOVEC, OR, ANDNOT, XOR, ADD, SUB, MULT, DIV, Common, result, CMP, table, knownIn, known}
 use Rattle.mi.specs.Integers.{natural, operate}
-use Rattle.mi.specs.Commands.{holds}
+use Rattle.mi.specs.Commands.{jumps}
 use Rattle.codes.specs.declared.Act.{Act}
 use Rattle.codes.specs.declared.Act.the-variants.{Alarm}
 use Rattle.codes.specs.Acts.{commonAct, actOf}
@@ -48,7 +48,7 @@ word : {n : ℕ} → Fits w32 n → natural 4 n ≡ n
 word f = mod-eq-of-lt (f .fits)
 
 pub act-of-spec : {M : Type 1} → statement M
-unfolding actOf known knownIn table operate holds
+unfolding actOf known knownIn table operate jumps
 act-of-spec =
     tie.close
     (tie.spec

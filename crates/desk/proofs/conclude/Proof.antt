@@ -28,6 +28,9 @@ with-requires c κs = search needs
 enum-known-out-3 : tie.Need-enum-known-out-3
 enum-known-out-3 c = search needs
 
+real-requires : tie.Need-real-requires
+real-requires c κs = search needs
+
 resume-requires : tie.Need-resume-requires
 resume-requires c κs = search needs
 
@@ -57,7 +60,7 @@ same-length-2 c = search needs
 
 returns-4 : tie.Need-returns-4
 unfolding endedBy
-returns-4 c = rw (c .before .before .before .out3 .given .1, resume-quiet, c .resume .ensures)
+returns-4 c = rw (c .before .before .before .before .out3 .given .1, resume-quiet, ← c .before .real .ensures, c .resume .ensures)
 
 same-length-3 : tie.Need-same-length-3
 same-length-3 c = search needs
@@ -77,6 +80,7 @@ conclude-spec =
     enum-told
     with-requires
     enum-known-out-3
+    real-requires
     resume-requires
     enum-known-out-4
     alarm-requires

@@ -2,7 +2,8 @@
 use denote.Ref.{now}
 use borrow.Author.Needs.{needs}
 use Rattle.mi.specs.Words.{lengthOf}
-use Rattle.mi.specs.Map.{Tried, View, viewBy}
+use Rattle.mi.specs.Alarms.{OrAlarm}
+use Rattle.mi.specs.Map.{View, viewBy}
 use Rattle.mi.specs.Operands.{Operand}
 use Rattle.operands.specs.Answers.{spotAs}
 use Rattle.operands.proofs.Taking.{takes-value, takes-update, no-destination}
@@ -12,7 +13,7 @@ use Rattle.operands.proofs.take.Tie as tie
 abbrev seen : tie.Start → View
 seen s = viewBy (s .args .status) (s .args .base) (s .args .entries) (now (s .args .mem))
 
-abbrev from : tie.Start → Tried Operand
+abbrev from : tie.Start → OrAlarm Operand
 from s = spotAs (s .args .spot) (now (s .args .regs))
 
 enum-told : tie.Need-enum-told
