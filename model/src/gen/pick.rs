@@ -82,6 +82,27 @@ impl Layout {
         4 + self.maker.rng.below(6) as u8
     }
 
+    /// Fields of an operand in form 0 or 3 to 6 whose address is the target; `index` is what register y adds.
+    pub fn addressed(&mut self, seen: &Seen, target: u32, form: u8, (x, y): (u8, u8), index: u32) -> Fields {
+        let base = seen[x as usize];
+        match form {
+            0 => asm::absolute(target),
+            3 => asm::relative(target.wrapping_sub(base), x),
+            4 => asm::indexed(target.wrapping_sub(base).wrapping_sub(index), x, y),
+            _ => {
+                let at = self.free_address(4, false);
+                let word = if form == 5 { target } else { target.wrapping_sub(index) };
+                self.lay_at(at, &word.to_be_bytes());
+                let z = at.wrapping_sub(base);
+                if form == 5 {
+                    asm::indirect(z, x)
+                } else {
+                    asm::indirect_indexed(z, x, y)
+                }
+            }
+        }
+    }
+
     /// Fields of an operand in a given form. `seen[15]` is the address after it.
     pub fn operand(&mut self, seen: &mut Seen, op: Op, role: Role, size: u32, form: u8) -> Fields {
         let write = role == Role::Destination || role == Role::Both;
@@ -105,7 +126,6 @@ impl Layout {
             self.lay_at(target, &value.to_be_bytes()[4 - size as usize..]);
         }
         match form {
-            0 => asm::absolute(target),
             1 => {
                 let mut chosen = value(&mut self.maker.rng, size);
                 if chosen == 0 && op == Op::Div && self.maker.rng.chance(80) {
@@ -122,19 +142,7 @@ impl Layout {
                 }
                 asm::register(x)
             }
-            3 => asm::relative(target.wrapping_sub(seen[x as usize]), x),
-            4 => asm::indexed(target.wrapping_sub(seen[x as usize]).wrapping_sub(index), x, y),
-            5 | 6 => {
-                let at = self.free_address(4, false);
-                let word = if form == 5 { target } else { target.wrapping_sub(index) };
-                self.lay_at(at, &word.to_be_bytes());
-                let z = at.wrapping_sub(seen[x as usize]);
-                if form == 5 {
-                    asm::indirect(z, x)
-                } else {
-                    asm::indirect_indexed(z, x, y)
-                }
-            }
+            0 | 3..=6 => self.addressed(seen, target, form, (x, y), index),
             7 => {
                 let x = self.stepping(seen, size, write, true);
                 seen[x as usize] = seen[x as usize].wrapping_sub(size);

@@ -83,20 +83,7 @@ impl Layout {
     #[allow(clippy::too_many_arguments)]
     fn aimed_in(&mut self, seen: &mut Seen, size: u32, target: u32, form: u8, x: u8, y: u8, index: u32) -> Fields {
         match form {
-            0 => asm::absolute(target),
-            3 => asm::relative(target.wrapping_sub(seen[x as usize]), x),
-            4 => asm::indexed(target.wrapping_sub(seen[x as usize]).wrapping_sub(index), x, y),
-            5 | 6 => {
-                let at = self.free_address(4, false);
-                let word = if form == 5 { target } else { target.wrapping_sub(index) };
-                self.lay_at(at, &word.to_be_bytes());
-                let z = at.wrapping_sub(seen[x as usize]);
-                if form == 5 {
-                    asm::indirect(z, x)
-                } else {
-                    asm::indirect_indexed(z, x, y)
-                }
-            }
+            0 | 3..=6 => self.addressed(seen, target, form, (x, y), index),
             _ => {
                 // Register 12 or 13 holds the place from the start on.
                 let x = 12 + self.maker.rng.below(2) as usize;
