@@ -1,5 +1,5 @@
 -- The lookup in user mode, case by case, by the tests that the code makes. One test stands for both parts of alarm 10: of an entry's low 30 bits a number
--- below that of the frames has the forbidden bits 0. Assumes nothing.
+-- below that of the frames has the forbidden bits 0.
 use Prim.Native.Nat.{ℕ, _+_, _*_, _/_, _%_, _<_, _≤_}
 use mathlib.Core.Path.{_≡_, sym}
 use mathlib.Core.Bool.{true, _&&_}

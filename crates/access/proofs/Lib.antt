@@ -1,5 +1,5 @@
 mod Cases
-mod Seats
+mod Lookups
 mod Reading
 mod OneLookup
 mod Storing

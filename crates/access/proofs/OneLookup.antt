@@ -1,4 +1,4 @@
--- What one lookup tells of the bytes in its page: a value, and the six bytes of an operand. Assumes nothing.
+-- What one lookup tells of the bytes in its page: a value, and the six bytes of an operand.
 use Prim.Native.Nat.{ℕ, zero, suc, _+_, _*_, _/_, _%_, _≤_}
 use mathlib.Core.Path.{_≡_, refl, sym, ap, _∙_}
 use native.Mathlib.Nat.{add-zero}

@@ -1,4 +1,4 @@
--- A read by a loop: after i bytes the read of the rest is the read of all. Assumes nothing.
+-- A read by a loop: after i bytes the read of the rest is the read of all.
 use Prim.Native.Nat.{ℕ, suc, _+_, _-_, _*_, _≤_, _<_}
 use mathlib.Core.Path.{_≡_}
 use native.Mathlib.Numerals.{add-one}

@@ -1,4 +1,4 @@
--- What the answers of this crate's functions say, in the terms of `mi`. Assumes nothing.
+-- What the answers of this crate's functions say, in the terms of `mi`.
 use Prim.Native.Nat.{ℕ, zero, suc, _+_, _*_, _/_, _%_, _≤_, _<_}
 use mathlib.Core.Path.{_≡_}
 use lib.ListN.{length}
@@ -8,12 +8,12 @@ use Rattle.mi.specs.Words.{Memory, byteAt, span}
 use Rattle.mi.specs.Alarms.{OrAlarm, got, alarm}
 use Rattle.mi.specs.Map.{Found, foundAt, RealWrites, commit}
 use Rattle.mi.specs.Operands.{Fields}
-use Rattle.access.specs.declared.Seat.{Seat}
-use Rattle.access.specs.declared.Seat.the-variants as seat
+use Rattle.access.specs.declared.Lookup.{Lookup}
+use Rattle.access.specs.declared.Lookup.the-variants as seat
 use Rattle.access.specs.declared.Got.{Got}
 use Rattle.access.specs.declared.Got.the-variants as value
-use Rattle.access.specs.declared.Raw.{Raw}
-use Rattle.access.specs.declared.Raw.the-variants as raw
+use Rattle.access.specs.declared.Fetched.{Fetched}
+use Rattle.access.specs.declared.Fetched.the-variants as raw
 use Rattle.access.specs.declared.Stored.{Stored}
 use Rattle.access.specs.declared.Stored.the-variants as stored
 
@@ -24,9 +24,9 @@ pub record Fits (base : RealAddress) (entries : ℕ) (m : Memory) : Type 0 where
   pub whole : length m % 512 ≡ 0
 
 -- a lookup of address x in memory m
-abbrev pub seatAs : Memory → VirtualAddress → Seat → OrAlarm Found
-seatAs m x (seat.At a) = got (foundAt m a)
-seatAs m x (seat.Alarm n) = alarm n (x .0)
+abbrev pub lookupAs : Memory → VirtualAddress → Lookup → OrAlarm Found
+lookupAs m x (seat.At a) = got (foundAt m a)
+lookupAs m x (seat.Alarm n) = alarm n (x .0)
 
 abbrev pub gotAs : Got → OrAlarm ℕ
 gotAs (value.Value n) = got n
@@ -47,24 +47,24 @@ unfoldable pub valueAt : Memory → ℕ → ℕ → ℕ → ℕ
 valueAt m zero a acc = acc
 valueAt m (suc L) a acc = valueAt m L (a + 1) (acc * 256 + byteAt m a)
 
-abbrev pub rawAs : Raw → OrAlarm Fields
-rawAs (raw.Fields f q z) = got (record { form = f; x = q / 16; y = q % 16; z = z })
-rawAs (raw.Alarm n x) = alarm n x
+abbrev pub fetchedAs : Fetched → OrAlarm Fields
+fetchedAs (raw.Fields f q z) = got (record { form = f; x = q / 16; y = q % 16; z = z })
+fetchedAs (raw.Alarm n x) = alarm n x
 
 -- a register pair that was fetched is a byte
-abbrev pub PairOrAlarm : Raw → Type 0
+abbrev pub PairOrAlarm : Fetched → Type 0
 PairOrAlarm (raw.Fields f q z) = q < 256
 PairOrAlarm (raw.Alarm n x) = Unit {0}
 
 -- how a store ends, with the memory that it leaves
-pub data Ended : Type 0 where
-  wrote : Memory → Ended
-  failed : ℕ → ℕ → Memory → Ended
+pub data StoreEnd : Type 0 where
+  wrote : Memory → StoreEnd
+  failed : ℕ → ℕ → Memory → StoreEnd
 
-abbrev pub storedAs : Stored → Memory → Ended
+abbrev pub storedAs : Stored → Memory → StoreEnd
 storedAs stored.Done m = wrote m
 storedAs (stored.Alarm n x) m = failed n x m
 
-abbrev pub endedBy : Memory → OrAlarm RealWrites → Ended
-endedBy m (got ws) = wrote (commit ws m)
-endedBy m (alarm n x) = failed n x m
+abbrev pub storeEndOf : Memory → OrAlarm RealWrites → StoreEnd
+storeEndOf m (got ws) = wrote (commit ws m)
+storeEndOf m (alarm n x) = failed n x m

@@ -6,7 +6,7 @@ ghost use lib.ListN.{length, take};
 ghost use Rattle.mi.specs.Words.{lengthOf, wordAt, bytesOf};
 ghost use Rattle.mi.specs.Map.{inFrame, mapped, realOf, viewBy, readBytes, located, writesFrom, realWritesFrom, commit};
 ghost use Rattle.mi.specs.Operands.{fieldsAt};
-ghost use Rattle.access.specs.Answers.{Fits, seatAs, gotAs, SpanOrAlarm, ByteOrAlarm, rawAs, PairOrAlarm, valueAt, storedAs, endedBy};
+ghost use Rattle.access.specs.Answers.{Fits, lookupAs, gotAs, SpanOrAlarm, ByteOrAlarm, fetchedAs, PairOrAlarm, valueAt, storedAs, storeEndOf};
 use mi::Access;
 use mi::FrameNumber;
 use mi::RealAddress;
@@ -14,7 +14,7 @@ use mi::Size;
 use mi::VirtualAddress;
 
 // Where a byte lies, or the number of an alarm.
-pub enum Seat {
+pub enum Lookup {
     At(RealAddress),
     Alarm(u32),
 }
@@ -26,7 +26,7 @@ pub enum Got {
 }
 
 // An operand's form byte, register pair and word, or an alarm and its argument.
-pub enum Raw {
+pub enum Fetched {
     Fields(u32, u32, u32),
     Alarm(u32, u32),
 }
@@ -63,30 +63,36 @@ fn in_frame(f: FrameNumber, x: VirtualAddress) -> RealAddress
 }
 
 // In user mode.
-fn look_mapped(mem: &[u8], base: RealAddress, entries: u32, x: VirtualAddress, why: Access) -> Seat
+fn look_mapped(
+    mem: &[u8],
+    base: RealAddress,
+    entries: u32,
+    x: VirtualAddress,
+    why: Access,
+) -> Lookup
     requires { ⌜ Fits base entries (now mem) ⌝ }
-    ensures { λ r. ⌜ seatAs (now (mem .entry)) x r ≡ mapped base entries (now (mem .entry)) x why ⌝ }
+    ensures { λ r. ⌜ lookupAs (now (mem .entry)) x r ≡ mapped base entries (now (mem .entry)) x why ⌝ }
 {
     let p = x.0 / 512;
     if entries <= p {
-        return Seat::Alarm(8);
+        return Lookup::Alarm(8);
     }
     let e = word(mem, (base.0 + 4 * p) as usize);
     if e < 0x8000_0000 {
-        return Seat::Alarm(9);
+        return Lookup::Alarm(9);
     }
     let f = e % 0x4000_0000;
     if mem.len() / 512 <= f as usize {
-        return Seat::Alarm(10);
+        return Lookup::Alarm(10);
     }
     match why {
-        Access::Fetch => Seat::At(in_frame(FrameNumber(f), x)),
-        Access::Read => Seat::At(in_frame(FrameNumber(f), x)),
+        Access::Fetch => Lookup::At(in_frame(FrameNumber(f), x)),
+        Access::Read => Lookup::At(in_frame(FrameNumber(f), x)),
         Access::Write => {
             if e % 0x8000_0000 < 0x4000_0000 {
-                return Seat::Alarm(11);
+                return Lookup::Alarm(11);
             }
-            Seat::At(in_frame(FrameNumber(f), x))
+            Lookup::At(in_frame(FrameNumber(f), x))
         }
     }
 }
@@ -106,17 +112,17 @@ pub fn look(
     entries: u32,
     x: VirtualAddress,
     why: Access,
-) -> Seat
+) -> Lookup
     requires { ⌜ Fits base entries (now mem) ⌝ }
-    ensures { λ r. ⌜ seatAs (now (mem .entry)) x r ≡ viewBy status base entries (now (mem .entry)) x why ⌝ }
+    ensures { λ r. ⌜ lookupAs (now (mem .entry)) x r ≡ viewBy status base entries (now (mem .entry)) x why ⌝ }
 {
     if status < 0x8000_0000 {
         return look_mapped(mem, base, entries, x, why);
     }
     if (x.0 as usize) < mem.len() {
-        return Seat::At(real(x));
+        return Lookup::At(real(x));
     }
-    Seat::Alarm(8)
+    Lookup::Alarm(8)
 }
 
 // ---- Reads
@@ -141,11 +147,11 @@ fn read_bytewise(
         let a = std::num::wrapping_add_u32(x.0, i as u32);
         let s = look(mem, status, base, entries, VirtualAddress(a), why);
         match s {
-            Seat::At(r) => {
+            Lookup::At(r) => {
                 let at = r.0 as usize;
                 acc = acc * 256 + wide(mem[at]);
             }
-            Seat::Alarm(k) => {
+            Lookup::Alarm(k) => {
                 return Got::Alarm(k, a);
             }
         }
@@ -182,17 +188,17 @@ pub fn read(
     if x.0 % 512 + width <= 512 {
         let s = look(mem, status, base, entries, x, Access::Read);
         match s {
-            Seat::At(r) => {
+            Lookup::At(r) => {
                 let at = r.0 as usize;
                 let v = value_at(mem, at, size);
                 return Got::Value(v);
             }
-            Seat::Alarm(k) => {
+            Lookup::Alarm(k) => {
                 return Got::Alarm(k, x.0);
             }
         }
     }
-    // The slice and the answer of this call alone go through memory.
+    // Rare. The copy of the slice and the match keep this call's needs out of the path above.
     let all = mem;
     let w = read_bytewise(all, status, base, entries, x, width as usize, Access::Read);
     match w {
@@ -209,12 +215,12 @@ pub fn fetch(mem: &[u8], status: u32, base: RealAddress, entries: u32, x: Virtua
 {
     let s = look(mem, status, base, entries, x, Access::Fetch);
     match s {
-        Seat::At(r) => {
+        Lookup::At(r) => {
             let at = r.0 as usize;
             let b = wide(mem[at]);
             Got::Value(b)
         }
-        Seat::Alarm(k) => Got::Alarm(k, x.0),
+        Lookup::Alarm(k) => Got::Alarm(k, x.0),
     }
 }
 
@@ -225,25 +231,25 @@ fn fields_bytewise(
     base: RealAddress,
     entries: u32,
     x: VirtualAddress,
-) -> Raw
+) -> Fetched
     requires { ⌜ Fits base entries (now mem) ⌝ }
-    ensures value { λ r. ⌜ rawAs r ≡ fieldsAt (viewBy status base entries (now (mem .entry))) (x .0) ⌝ }
+    ensures value { λ r. ⌜ fetchedAs r ≡ fieldsAt (viewBy status base entries (now (mem .entry))) (x .0) ⌝ }
     ensures small { λ r. ⌜ PairOrAlarm r ⌝ }
 {
     let a = read_bytewise(mem, status, base, entries, x, 1, Access::Fetch);
     match a {
-        Got::Alarm(n, z) => Raw::Alarm(n, z),
+        Got::Alarm(n, z) => Fetched::Alarm(n, z),
         Got::Value(form) => {
             let second = VirtualAddress(std::num::wrapping_add_u32(x.0, 1));
             let b = read_bytewise(mem, status, base, entries, second, 1, Access::Fetch);
             match b {
-                Got::Alarm(n, z) => Raw::Alarm(n, z),
+                Got::Alarm(n, z) => Fetched::Alarm(n, z),
                 Got::Value(pair) => {
                     let third = VirtualAddress(std::num::wrapping_add_u32(x.0, 2));
                     let c = read_bytewise(mem, status, base, entries, third, 4, Access::Fetch);
                     match c {
-                        Got::Alarm(n, z) => Raw::Alarm(n, z),
-                        Got::Value(z) => Raw::Fields(form, pair, z),
+                        Got::Alarm(n, z) => Fetched::Alarm(n, z),
+                        Got::Value(z) => Fetched::Fields(form, pair, z),
                     }
                 }
             }
@@ -252,21 +258,27 @@ fn fields_bytewise(
 }
 
 // The six bytes of an operand.
-pub fn fields(mem: &[u8], status: u32, base: RealAddress, entries: u32, x: VirtualAddress) -> Raw
+pub fn fields(
+    mem: &[u8],
+    status: u32,
+    base: RealAddress,
+    entries: u32,
+    x: VirtualAddress,
+) -> Fetched
     requires { ⌜ Fits base entries (now mem) ⌝ }
-    ensures value { λ r. ⌜ rawAs r ≡ fieldsAt (viewBy status base entries (now (mem .entry))) (x .0) ⌝ }
+    ensures value { λ r. ⌜ fetchedAs r ≡ fieldsAt (viewBy status base entries (now (mem .entry))) (x .0) ⌝ }
     ensures small { λ r. ⌜ PairOrAlarm r ⌝ }
 {
     if x.0 % 512 <= 506 {
         let s = look(mem, status, base, entries, x, Access::Fetch);
         match s {
-            Seat::At(r) => {
+            Lookup::At(r) => {
                 let at = r.0 as usize;
                 let z = word(mem, at + 2);
-                return Raw::Fields(wide(mem[at]), wide(mem[at + 1]), z);
+                return Fetched::Fields(wide(mem[at]), wide(mem[at + 1]), z);
             }
-            Seat::Alarm(k) => {
-                return Raw::Alarm(k, x.0);
+            Lookup::Alarm(k) => {
+                return Fetched::Alarm(k, x.0);
             }
         }
     }
@@ -286,7 +298,7 @@ pub fn store_bytes(
     n: usize,
 ) -> Stored
     requires { ⌜ Fits base entries (now mem) × (n ≤ 60) ⌝ }
-    ensures { λ r. ⌜ storedAs r (now (mem .exit)) ≡ endedBy (now (mem .entry)) (located (viewBy status base entries (now (mem .entry))) (writesFrom (x .0) (take n (now (bytes .entry))))) ⌝ }
+    ensures { λ r. ⌜ storedAs r (now (mem .exit)) ≡ storeEndOf (now (mem .entry)) (located (viewBy status base entries (now (mem .entry))) (writesFrom (x .0) (take n (now (bytes .entry))))) ⌝ }
 {
     let source = &bytes[..];
     let mut places: [u32; 60] = [0; 60];
@@ -295,10 +307,10 @@ pub fn store_bytes(
         let a = std::num::wrapping_add_u32(x.0, i as u32);
         let s = look(mem, status, base, entries, VirtualAddress(a), Access::Write);
         match s {
-            Seat::At(r) => {
+            Lookup::At(r) => {
                 places[i] = r.0;
             }
-            Seat::Alarm(k) => {
+            Lookup::Alarm(k) => {
                 return Stored::Alarm(k, a);
             }
         }
@@ -327,8 +339,8 @@ fn value_to(mem: &mut [u8], a: usize, size: Size, value: u32)
             mem[a + 1] = (value % 256) as u8;
         }
         Size::W => {
-            mem[a] = (value / 16777216 % 256) as u8;
-            mem[a + 1] = (value / 65536 % 256) as u8;
+            mem[a] = (value / 0x100_0000 % 256) as u8;
+            mem[a + 1] = (value / 0x1_0000 % 256) as u8;
             mem[a + 2] = (value / 256 % 256) as u8;
             mem[a + 3] = (value % 256) as u8;
         }
@@ -349,8 +361,8 @@ fn bytes_of(size: Size, value: u32) -> [u8; 60]
             bytes[1] = (value % 256) as u8;
         }
         Size::W => {
-            bytes[0] = (value / 16777216 % 256) as u8;
-            bytes[1] = (value / 65536 % 256) as u8;
+            bytes[0] = (value / 0x100_0000 % 256) as u8;
+            bytes[1] = (value / 0x1_0000 % 256) as u8;
             bytes[2] = (value / 256 % 256) as u8;
             bytes[3] = (value % 256) as u8;
         }
@@ -369,18 +381,18 @@ pub fn store(
     value: u32,
 ) -> Stored
     requires { ⌜ Fits base entries (now mem) ⌝ }
-    ensures { λ r. ⌜ storedAs r (now (mem .exit)) ≡ endedBy (now (mem .entry)) (located (viewBy status base entries (now (mem .entry))) (writesFrom (x .0) (bytesOf (lengthOf size) value))) ⌝ }
+    ensures { λ r. ⌜ storedAs r (now (mem .exit)) ≡ storeEndOf (now (mem .entry)) (located (viewBy status base entries (now (mem .entry))) (writesFrom (x .0) (bytesOf (lengthOf size) value))) ⌝ }
 {
     let n = size.length();
     if x.0 % 512 + n <= 512 {
         let s = look(mem, status, base, entries, x, Access::Write);
         match s {
-            Seat::At(r) => {
+            Lookup::At(r) => {
                 let at = r.0 as usize;
                 value_to(mem, at, size, value);
                 return Stored::Done;
             }
-            Seat::Alarm(k) => {
+            Lookup::Alarm(k) => {
                 return Stored::Alarm(k, x.0);
             }
         }

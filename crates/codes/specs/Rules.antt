@@ -1,4 +1,4 @@
--- How the operand rules of a command byte are written as one number, and what they are. Assumes nothing.
+-- How the operand rules of a command byte are written as one number, and what they are.
 use Prim.Native.Nat.{ℕ, zero, suc, _+_, _*_, _/_, _%_}
 use mathlib.Core.Bool.{Bool, _||_}
 use mathlib.Core.List.{List, [], _∷_}

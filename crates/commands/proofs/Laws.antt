@@ -1,5 +1,4 @@
 -- What the ends of the code are in the terms of `mi`: addresses that wrap, a status with its own flags, a store, and the order inside a command.
--- Assumes nothing.
 use Prim.Native.Nat.{ℕ, zero, suc, _+_, _*_, _<_}
 use mathlib.Core.Path.{_≡_, refl, sym, _∙_}
 use mathlib.Core.Bool.{Bool, true, false, false≢true}
@@ -20,12 +19,12 @@ use Rattle.mi.specs.Integers.{natural, operate}
 use Rattle.mi.specs.Operands.{virtual, past, Operands, operandsFrom, operandsOf}
 use Rattle.mi.specs.Commands.{Done, stored, commonDone, done, knownOr12, allowedInUserMode, allowedInKernelMode, actOf, commandBy, userEffect, userCommand, kernelEffect, kernelCommand}
 use Rattle.access.specs.declared.Stored.{Stored}
-use Rattle.access.specs.Answers.{storedAs, endedBy}
+use Rattle.access.specs.Answers.{storedAs, storeEndOf}
 use Rattle.codes.specs.Rules.{knownRules, forbiddenOf}
-use Rattle.codes.specs.Acts.{given, commonAct, commandAct, knownAct}
-use Rattle.codes.specs.Acts.{actOf as asked}
+use Rattle.codes.specs.Asked.{given, commonAct, commandAct, knownAct}
+use Rattle.codes.specs.Asked.{askedOf as asked}
 use Rattle.commands.specs.declared.Out.{Out}
-use Rattle.commands.specs.Ends.{End, alarmed, outAs, endedAs, EndedAs, writtenEnd, doneEnd, userEnd, kernelEnd, execOf, actEnd}
+use Rattle.commands.specs.Ends.{End, alarmed, outAs, afterStore, AfterStore, writtenEnd, doneEnd, userEnd, kernelEnd, execOf, actEnd}
 use Rattle.commands.proofs.Modes.{forbids, forbidsKnown, forbids-byte}
 
 -- ---- Addresses
@@ -50,13 +49,13 @@ unfolding withFlags
 same-status s = omega arith
 
 module _ (s : ℕ) (m : Memory) where
-  written : (d : Done) (t : OrAlarm RealWrites) → endedAs (endedBy m t) (d .registers) (withFlags s (d .flags)) ≡ writtenEnd s m d t
+  written : (d : Done) (t : OrAlarm RealWrites) → afterStore (storeEndOf m t) (d .registers) (withFlags s (d .flags)) ≡ writtenEnd s m d t
   written d (got ws) = refl
   written d (alarm n x) = refl
 
   -- a store of what a command writes ends the command
-  pub stored-end : (v : View) (d : Done) (m' : Memory) (t : Stored) (o : Out) → EndedAs o t (withFlags s (d .flags))
-      → storedAs t m' ≡ endedBy m (located v (d .writes)) → outAs o (d .registers) m' ≡ doneEnd s m v (got d)
+  pub stored-end : (v : View) (d : Done) (m' : Memory) (t : Stored) (o : Out) → AfterStore o t (withFlags s (d .flags))
+      → storedAs t m' ≡ storeEndOf m (located v (d .writes)) → outAs o (d .registers) m' ≡ doneEnd s m v (got d)
   stored-end v d m' t o e h = e .same (d .registers) m' ∙ rw h (written d (located v (d .writes)))
 
 -- ---- A command whose byte and operands are known

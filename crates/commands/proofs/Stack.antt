@@ -1,4 +1,4 @@
--- POPR turn by turn, and what PUSHR writes as one row of words. Assumes nothing.
+-- POPR turn by turn, and what PUSHR writes as one row of words.
 use Prim.Native.Nat.{ℕ, zero, suc, _+_, _-_, _*_, _/_, _%_, _<_, _≤_}
 use mathlib.Core.Path.{_≡_, refl, ap, _∙_}
 use mathlib.Core.List.{List, [], _∷_, _++_, append-assoc, append-nil}

@@ -1,4 +1,4 @@
--- How a command ends, with the registers and the memory that it leaves, in the terms of `mi`. Assumes nothing.
+-- How a command ends, with the registers and the memory that it leaves, in the terms of `mi`.
 use Prim.Native.Nat.{ℕ}
 use mathlib.Core.Path.{_≡_}
 use mathlib.Core.List.{[]}
@@ -13,11 +13,11 @@ use Rattle.mi.specs.Alarms.{OrAlarm, got, alarm, _>>=_}
 use Rattle.mi.specs.Map.{View, viewBy, readBytes, RealWrites, located, commit}
 use Rattle.mi.specs.Operands.{virtual}
 use Rattle.mi.specs.Commands.{Done, stored, pushed, popped, called, returned, Act, done, modal, SystemCall, userCommand, KernelEffect, kernelCommand}
-use Rattle.mi.specs.Commands.{halts as halting, resumes as resuming}
+use Rattle.mi.specs.Commands.{halts, resumes}
 use Rattle.access.specs.declared.Stored.{Stored}
-use Rattle.access.specs.Answers.{Ended, wrote, failed, storedAs}
-use Rattle.codes.specs.declared.Act.{Act as Asked}
-use Rattle.codes.specs.declared.Act.the-variants as act
+use Rattle.access.specs.Answers.{StoreEnd, wrote, failed, storedAs}
+use Rattle.codes.specs.declared.Asked.{Asked}
+use Rattle.codes.specs.declared.Asked.the-variants as act
 use Rattle.commands.specs.declared.Out.{Out}
 use Rattle.commands.specs.declared.Out.the-variants as out
 
@@ -26,27 +26,27 @@ pub data End : Type 0 where
   went : Registers → ℕ → Memory → End
   -- a system call: argument and registers
   calls : ℕ → Registers → Memory → End
-  halts : Registers → Memory → End
+  haltEnd : Registers → Memory → End
   -- a control block's address
-  resumes : VirtualAddress → Memory → End
+  resumeEnd : VirtualAddress → Memory → End
   -- an alarm with its number and argument
   alarmed : ℕ → ℕ → Memory → End
 
 abbrev pub outAs : Out → Registers → Memory → End
 outAs (out.Done s) r m = went r s m
 outAs (out.System x) r m = calls x r m
-outAs out.Halt r m = halts r m
-outAs (out.Resume a) r m = resumes a m
+outAs out.Halt r m = haltEnd r m
+outAs (out.Resume a) r m = resumeEnd a m
 outAs (out.Alarm n x) r m = alarmed n x m
 
 -- a store that ended, with the registers r and the status s for its success
-abbrev pub endedAs : Ended → Registers → ℕ → End
-endedAs (wrote m) r s = went r s m
-endedAs (failed n x m) r s = alarmed n x m
+abbrev pub afterStore : StoreEnd → Registers → ℕ → End
+afterStore (wrote m) r s = went r s m
+afterStore (failed n x m) r s = alarmed n x m
 
 -- a store's end as a command's, whatever the registers and the memory
-pub record EndedAs (o : Out) (t : Stored) (s : ℕ) : Type 0 where
-  pub same : (r : Registers) (m : Memory) → outAs o r m ≡ endedAs (storedAs t m) r s
+pub record AfterStore (o : Out) (t : Stored) (s : ℕ) : Type 0 where
+  pub same : (r : Registers) (m : Memory) → outAs o r m ≡ afterStore (storedAs t m) r s
 
 -- ---- From what a command came to, with status s, memory m and view v
 
@@ -65,8 +65,8 @@ userEnd s m v (alarm n x) = alarmed n x m
 
 abbrev pub kernelEnd : ℕ → Memory → View → OrAlarm (Act KernelEffect) → End
 kernelEnd s m v (got (done d)) = doneEnd s m v (got d)
-kernelEnd s m v (got (modal (halting r))) = halts r m
-kernelEnd s m v (got (modal (resuming a))) = resumes a m
+kernelEnd s m v (got (modal (halts r))) = haltEnd r m
+kernelEnd s m v (got (modal (resumes a))) = resumeEnd a m
 kernelEnd s m v (alarm n x) = alarmed n x m
 
 -- the command at R15, in the mode that the status tells
@@ -93,6 +93,6 @@ actEnd s m v r x t act.Pop = doneEnd s m v (poppedDone v r (flagsOf s))
 actEnd s m v r x t act.Call = doneEnd s m v (got (called x r (flagsOf s)))
 actEnd s m v r x t act.Return = doneEnd s m v (returnedDone v r (flagsOf s))
 actEnd s m v r x t act.System = calls x r m
-actEnd s m v r x t act.Halt = halts r m
-actEnd s m v r x t act.Resume = resumes (record { 0 = x }) m
+actEnd s m v r x t act.Halt = haltEnd r m
+actEnd s m v r x t act.Resume = resumeEnd (record { 0 = x }) m
 actEnd s m v r x t (act.Alarm n a) = alarmed n a m

@@ -11,18 +11,16 @@ ghost use Rattle.mi.specs.Commands.{keptRest, stored, pushed, called};
 ghost use Rattle.access.specs.Answers.{Fits};
 ghost use Rattle.codes.specs.Rules.{tableOf};
 ghost use Rattle.operands.specs.Answers.{SmallTarget};
-ghost use Rattle.commands.specs.Ends.{outAs, doneEnd, poppedDone, returnedDone, actEnd, execOf, EndedAs};
+ghost use Rattle.commands.specs.Ends.{outAs, doneEnd, poppedDone, returnedDone, actEnd, execOf, AfterStore};
 use access::Got;
 use access::Stored;
-use codes::Act;
+use codes::Asked;
 use mi::RealAddress;
 use mi::Result;
 use mi::Size;
 use mi::Target;
 use mi::VirtualAddress;
 use operands::Operands;
-
-// ---- The writes
 
 // How a command ended: with a new status; a system call with its argument; stopped; a control block's address to resume from; an alarm and its argument.
 pub enum Out {
@@ -32,6 +30,8 @@ pub enum Out {
     Resume(VirtualAddress),
     Alarm(u32, u32),
 }
+
+// ---- The writes
 
 fn with_flags(status: u32, f: u32) -> u32
     ensures { λ r. ⌜ r ≡ withFlags status f ⌝ }
@@ -45,14 +45,14 @@ fn kept_rest(size: Size, old: u32, x: u32) -> u32
 {
     match size {
         Size::B => old / 256 * 256 + x % 256,
-        Size::H => old / 65536 * 65536 + x % 65536,
+        Size::H => old / 0x1_0000 * 0x1_0000 + x % 0x1_0000,
         Size::W => x,
     }
 }
 
 // A store that ended, with a status for its success.
 fn ended(done: Stored, status: u32) -> Out
-    ensures { λ r. ⌜ EndedAs r done status ⌝ }
+    ensures { λ r. ⌜ AfterStore r done status ⌝ }
 {
     match done {
         Stored::Done => Out::Done(status),
@@ -99,8 +99,8 @@ fn stacked(regs: &[u32; 16], sp: u32) -> [u8; 60]
     let mut i: usize = 0;
     while i < 15 {
         let w = if i < 14 { regs[i] } else { sp };
-        bytes[4 * i] = (w / 16777216 % 256) as u8;
-        bytes[4 * i + 1] = (w / 65536 % 256) as u8;
+        bytes[4 * i] = (w / 0x100_0000 % 256) as u8;
+        bytes[4 * i + 1] = (w / 0x1_0000 % 256) as u8;
         bytes[4 * i + 2] = (w / 256 % 256) as u8;
         bytes[4 * i + 3] = (w % 256) as u8;
         i += 1;
@@ -201,28 +201,28 @@ fn finish(
     entries: u32,
     x: u32,
     target: Target,
-    what: Act,
+    what: Asked,
 ) -> Out
     requires { ⌜ Fits base entries (now mem) × SmallTarget target ⌝ }
     ensures { λ r. ⌜ outAs r (now (regs .exit)) (now (mem .exit)) ≡ actEnd status (now (mem .entry)) (viewBy status base entries (now (mem .entry))) (now (regs .entry)) x target what ⌝ }
 {
     match what {
-        Act::Give(size, v) => put(mem, regs, status, base, entries, size, v, target),
-        Act::Flags(f) => Out::Done(with_flags(status, f)),
-        Act::Jump(taken) => {
+        Asked::Give(size, v) => put(mem, regs, status, base, entries, size, v, target),
+        Asked::Flags(f) => Out::Done(with_flags(status, f)),
+        Asked::Jump(taken) => {
             if taken {
                 regs[15] = x;
             }
             Out::Done(status)
         }
-        Act::Push => push(mem, regs, status, base, entries),
-        Act::Pop => pop(mem, regs, status, base, entries),
-        Act::Call => call(mem, regs, status, base, entries, x),
-        Act::Return => ret(mem, regs, status, base, entries),
-        Act::System => Out::System(x),
-        Act::Halt => Out::Halt,
-        Act::Resume => Out::Resume(VirtualAddress(x)),
-        Act::Alarm(n, a) => Out::Alarm(n, a),
+        Asked::Push => push(mem, regs, status, base, entries),
+        Asked::Pop => pop(mem, regs, status, base, entries),
+        Asked::Call => call(mem, regs, status, base, entries, x),
+        Asked::Return => ret(mem, regs, status, base, entries),
+        Asked::System => Out::System(x),
+        Asked::Halt => Out::Halt,
+        Asked::Resume => Out::Resume(VirtualAddress(x)),
+        Asked::Alarm(n, a) => Out::Alarm(n, a),
     }
 }
 
@@ -252,7 +252,7 @@ pub fn exec(
             match o {
                 Operands::Alarm(n, a) => Out::Alarm(n, a),
                 Operands::Ready(x, y, target) => {
-                    let what = codes::act_of(b, status % 16, x, y);
+                    let what = codes::asked_of(b, status % 16, x, y);
                     finish(mem, regs, status, base, entries, x, target, what)
                 }
             }

@@ -1,4 +1,4 @@
--- A command's end is the step, where no interrupt is due; else the step enters the level that is. Assumes nothing.
+-- A command's end is the step, where no interrupt is due; else the step enters the level that is.
 use Prim.Native.Nat.{ℕ, zero, suc, _+_, _^_, _≤_, _<_}
 use mathlib.Core.Path.{_≡_, refl, sym, ap, _∙_}
 use mathlib.Core.Bool.{Bool, true, false, _&&_}
@@ -11,45 +11,45 @@ use Rattle.mi.specs.State.{Registers, userMode, levelOf, flagsOf, withoutLevel,
 use Rattle.mi.specs.Alarms.{OrAlarm, got, alarm}
 use Rattle.mi.specs.Map.{View, viewOf, viewBy, RealWrites, located, commit}
 use Rattle.mi.specs.Commands.{Done, Act, done, modal, SystemCall, userCommand, KernelEffect, kernelCommand}
-use Rattle.mi.specs.Commands.{halts as halting, resumes as resuming}
-use Rattle.mi.specs.Steps.{Outcome, stop, resume, Course, enters, goOn, due, written, ofCommand, interrupted, userCourse, concluded, userStep, kernelWritten, ofKernelCommand, kernelStep, oneStep}
+use Rattle.mi.specs.Commands.{halts, resumes}
+use Rattle.mi.specs.Steps.{Outcome, stop, resume, Course, enters, completed, due, userWritten, ofUserCommand, interrupted, userCourse, concluded, userStep, kernelWritten, ofKernelCommand, kernelStep, oneStep}
 use Rattle.mi.specs.Calls.{Stepped}
 use Rattle.mi.proofs.Levels.{due-none, due-pending}
 use Rattle.commands.specs.declared.Out.{Out}
 use Rattle.commands.specs.declared.Out.the-variants as out
-use Rattle.commands.specs.Ends.{End, went, calls, halts, resumes, alarmed, outAs, writtenEnd, userEnd, kernelEnd, execOf}
-use Rattle.desk.specs.Replies.{shown, enteredBy, endedBy, interruptOf}
+use Rattle.commands.specs.Ends.{End, went, calls, haltEnd, resumeEnd, alarmed, outAs, writtenEnd, userEnd, kernelEnd, execOf}
+use Rattle.desk.specs.Replies.{shown, enteredBy, concludedEnd, interruptOf}
 
 -- ---- The end is the step
 
 module _ (d : Desk) (m : Memory) where
   written-end : userMode (d .status) ≡ true → (c : Done) (t : OrAlarm RealWrites)
-      → enteredBy d m (written (d .registers) (d .status) (d .pending) c t) ≡ endedBy d m (writtenEnd (d .status) m c t)
-  unfolding written concluded goOn endedBy
+      → enteredBy d m (userWritten (d .registers) (d .status) (d .pending) c t) ≡ concludedEnd d m (writtenEnd (d .status) m c t)
+  unfolding userWritten concluded completed concludedEnd
   written-end u c (got ws) = refl
   written-end u c (alarm n x) = rw u
 
   user-end : userMode (d .status) ≡ true → (v : View) (t : OrAlarm (Act SystemCall))
-      → enteredBy d m (ofCommand (d .registers) (d .status) (d .pending) v t) ≡ endedBy d m (userEnd (d .status) m v t)
-  unfolding ofCommand endedBy
+      → enteredBy d m (ofUserCommand (d .registers) (d .status) (d .pending) v t) ≡ concludedEnd d m (userEnd (d .status) m v t)
+  unfolding ofUserCommand concludedEnd
   user-end u v (got (done c)) = written-end u c (located v (c .writes))
   user-end u v (got (modal c)) = refl
   user-end u v (alarm n x) = rw u
 
-  kernel-written-end : userMode (d .status) ≡ false → (c : Done) (t : OrAlarm RealWrites) → shown (kernelWritten d c t) m ≡ endedBy d m (writtenEnd (d .status) m c t)
-  unfolding kernelWritten goOn endedBy
+  kernel-written-end : userMode (d .status) ≡ false → (c : Done) (t : OrAlarm RealWrites) → shown (kernelWritten d c t) m ≡ concludedEnd d m (writtenEnd (d .status) m c t)
+  unfolding kernelWritten completed concludedEnd
   kernel-written-end u c (got ws) = refl
   kernel-written-end u c (alarm n x) = rw u
 
-  kernel-end : userMode (d .status) ≡ false → (v : View) (t : OrAlarm (Act KernelEffect)) → shown (ofKernelCommand d m v t) m ≡ endedBy d m (kernelEnd (d .status) m v t)
-  unfolding ofKernelCommand endedBy
+  kernel-end : userMode (d .status) ≡ false → (v : View) (t : OrAlarm (Act KernelEffect)) → shown (ofKernelCommand d m v t) m ≡ concludedEnd d m (kernelEnd (d .status) m v t)
+  unfolding ofKernelCommand concludedEnd
   kernel-end u v (got (done c)) = kernel-written-end u c (located v (c .writes))
-  kernel-end u v (got (modal (halting r))) = refl
-  kernel-end u v (got (modal (resuming a))) = refl
+  kernel-end u v (got (modal (halts r))) = refl
+  kernel-end u v (got (modal (resumes a))) = refl
   kernel-end u v (alarm n x) = rw u
 
   -- no interrupt is due
-  step-ends : interruptOf (d .status) (d .pending) ≡ 0 → shown (oneStep d m) m ≡ endedBy d m (execOf (d .status) (d .base) (d .entries) (d .registers) m)
+  step-ends : interruptOf (d .status) (d .pending) ≡ 0 → shown (oneStep d m) m ≡ concludedEnd d m (execOf (d .status) (d .base) (d .entries) (d .registers) m)
   unfolding interruptOf oneStep userStep userCourse interrupted kernelStep execOf
   step-ends e = go (userMode (d .status)) refl e
     where
@@ -58,7 +58,7 @@ module _ (d : Desk) (m : Memory) where
 
       go : (b : Bool) → userMode (d .status) ≡ b → pick b (due 15 (d .pending) (levelOf (d .status))) 0 ≡ 0
           → shown (pick b (userStep d v (systemBlockOf d m)) (kernelStep d v m)) m
-          ≡ endedBy d m (pick b (userEnd (d .status) m v (userCommand v (d .registers) (flagsOf (d .status)))) (kernelEnd (d .status) m v (kernelCommand v (d .registers) (flagsOf (d .status)))))
+          ≡ concludedEnd d m (pick b (userEnd (d .status) m v (userCommand v (d .registers) (flagsOf (d .status)))) (kernelEnd (d .status) m v (kernelCommand v (d .registers) (flagsOf (d .status)))))
       go true u z = rw z (user-end u v (userCommand v (d .registers) (flagsOf (d .status))))
       go false u z = kernel-end u v (kernelCommand v (d .registers) (flagsOf (d .status)))
 
@@ -103,8 +103,8 @@ level-pending s p k e h = go (userMode s) e
 abbrev Kept : Memory → End → Type 0
 Kept m (went r s n) = Unit {0}
 Kept m (calls x r n) = n ≡ m
-Kept m (halts r n) = n ≡ m
-Kept m (resumes a n) = n ≡ m
+Kept m (haltEnd r n) = n ≡ m
+Kept m (resumeEnd a n) = n ≡ m
 Kept m (alarmed k x n) = n ≡ m
 
 written-kept : (s : ℕ) (m : Memory) (c : Done) (t : OrAlarm RealWrites) → Kept m (writtenEnd s m c t)
@@ -118,8 +118,8 @@ user-kept s m v (alarm n x) = refl
 
 kernel-kept : (s : ℕ) (m : Memory) (v : View) (t : OrAlarm (Act KernelEffect)) → Kept m (kernelEnd s m v t)
 kernel-kept s m v (got (done c)) = written-kept s m c (located v (c .writes))
-kernel-kept s m v (got (modal (halting r))) = refl
-kernel-kept s m v (got (modal (resuming a))) = refl
+kernel-kept s m v (got (modal (halts r))) = refl
+kernel-kept s m v (got (modal (resumes a))) = refl
 kernel-kept s m v (alarm n x) = refl
 
 exec-kept : (s : ℕ) (base : RealAddress) (entries : ℕ) (r : Registers) (m : Memory) → Kept m (execOf s base entries r m)
@@ -135,8 +135,8 @@ exec-kept s base entries r m = go (userMode s)
 
 -- ---- The end, concluded over the memory that the command left
 
-end-over : (d : Desk) (m : Memory) (o : Out) (w : Registers) (y : Memory) → Kept m (outAs o w y) → endedBy d y (outAs o w y) ≡ endedBy d m (outAs o w y)
-unfolding endedBy
+end-over : (d : Desk) (m : Memory) (o : Out) (w : Registers) (y : Memory) → Kept m (outAs o w y) → concludedEnd d y (outAs o w y) ≡ concludedEnd d m (outAs o w y)
+unfolding concludedEnd
 end-over d m (out.Done s) w y k = refl
 end-over d m (out.System x) w y k = rw k
 end-over d m out.Halt w y k = rw k
@@ -144,10 +144,10 @@ end-over d m (out.Resume a) w y k = rw k
 end-over d m (out.Alarm n x) w y k = rw k
 
 pub command-step : (d : Desk) (m : Memory) (o : Out) (w : Registers) (y : Memory) → interruptOf (d .status) (d .pending) ≡ 0
-    → outAs o w y ≡ execOf (d .status) (d .base) (d .entries) (d .registers) m → (s : Stepped) → s ≡ endedBy d y (outAs o w y) → s ≡ shown (oneStep d m) m
+    → outAs o w y ≡ execOf (d .status) (d .base) (d .entries) (d .registers) m → (s : Stepped) → s ≡ concludedEnd d y (outAs o w y) → s ≡ shown (oneStep d m) m
 command-step d m o w y none e s g =
     let kept : Kept m (outAs o w y) = rw e (exec-kept (d .status) (d .base) (d .entries) (d .registers) m) in
-    g ∙ end-over d m o w y kept ∙ ap (endedBy d m) e ∙ sym (step-ends d m none)
+    g ∙ end-over d m o w y kept ∙ ap (concludedEnd d m) e ∙ sym (step-ends d m none)
 
 -- ---- RESUME writes nothing
 

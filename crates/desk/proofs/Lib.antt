@@ -1,3 +1,3 @@
 pub mod Tests
 pub mod Ending
-pub mod Turns
+pub mod Runs

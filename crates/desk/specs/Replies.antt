@@ -1,4 +1,4 @@
--- What a step hands back, with the memory that it leaves, from an outcome of `mi` or from a command's end. Assumes nothing.
+-- What a step hands back, with the memory that it leaves, from an outcome of `mi` or from a command's end.
 use Prim.Native.Nat.{ℕ, _+_, _≤_}
 use lib.ListN.{length}
 use Rattle.mi.specs.declared.Desk.{Desk}
@@ -10,7 +10,7 @@ use Rattle.mi.specs.State.{userMode, levelOf, systemBlockOf, deskWith}
 use Rattle.mi.specs.Map.{realOf, commit}
 use Rattle.mi.specs.Steps.{Outcome, Course, enters, due, concluded, stop, halt, resume}
 use Rattle.mi.specs.Calls.{Stepped, eventAnswer, Ran}
-use Rattle.commands.specs.Ends.{End, went, calls, halts, resumes, alarmed}
+use Rattle.commands.specs.Ends.{End, went, calls, haltEnd, resumeEnd, alarmed}
 
 -- what kernel entries rely on: numbers 2 and 3 have nothing to refuse
 pub record Blocks (d : Desk) (m : Memory) : Type 0 where
@@ -39,12 +39,12 @@ abbrev pub alarmedBy : Desk → Memory → ℕ → ℕ → Stepped
 alarmedBy d m n x = pick (userMode (d .status)) (enteredBy d m (enters n (d .registers) x (d .pending))) (shown (stop n d) m)
 
 -- a command's end, of desk d over memory m
-unfoldable pub endedBy : Desk → Memory → End → Stepped
-endedBy d m (went r s n) = stepped (record { answer = stepAnswer.Done; desk = deskWith d r s (d .pending) (d .mark) }) n
-endedBy d m (calls x r n) = enteredBy d m (enters 1 r x (d .pending))
-endedBy d m (halts r n) = shown (halt r d) m
-endedBy d m (resumes x n) = shown (resume d m (realOf x)) m
-endedBy d m (alarmed n x k) = alarmedBy d m n x
+unfoldable pub concludedEnd : Desk → Memory → End → Stepped
+concludedEnd d m (went r s n) = stepped (record { answer = stepAnswer.Done; desk = deskWith d r s (d .pending) (d .mark) }) n
+concludedEnd d m (calls x r n) = enteredBy d m (enters 1 r x (d .pending))
+concludedEnd d m (haltEnd r n) = shown (halt r d) m
+concludedEnd d m (resumeEnd x n) = shown (resume d m (realOf x)) m
+concludedEnd d m (alarmed n x k) = alarmedBy d m n x
 
 -- the level that is due, 0 for none: only in user mode
 unfoldable pub interruptOf : ℕ → ℕ → ℕ

@@ -5,9 +5,9 @@ ghost use Prim.Native.Nat.{_+_, _^_, _≤_};
 ghost use lib.ListN.{length};
 ghost use Rattle.mi.specs.State.{allowedLength, validStatus, isPending, withLevel, withoutLevel, deskWith};
 ghost use Rattle.mi.specs.Steps.{enters, stop as stopOf, resume as resumeOf, oneStep};
-ghost use Rattle.mi.specs.Calls.{refusalNumber, zeroDesk, freshRefusal, freshOf, stepRefusal, steppedOf, requestedOf, stepsOf, runOf};
+ghost use Rattle.mi.specs.Calls.{refusalNumber, zeroDesk, freshRefusal, freshOf, stepRefusal, stepOf, requestOf, stepsOf, runOf};
 ghost use Rattle.commands.specs.Ends.{outAs};
-ghost use Rattle.desk.specs.Replies.{replyOf, stepped, shown, enteredBy, alarmedBy, endedBy, interruptOf, ranAs, Blocks};
+ghost use Rattle.desk.specs.Replies.{replyOf, stepped, shown, enteredBy, alarmedBy, concludedEnd, interruptOf, ranAs, Blocks};
 use commands::Out;
 use mi::Answer;
 use mi::Desk;
@@ -146,7 +146,7 @@ fn with_level(pending: u16, level: u32) -> u16
 
 // An interrupt level is requested: any number may be given, 1 to 15 are levels.
 pub fn request(d: Desk, level: u32) -> Reply
-    ensures { λ r. ⌜ r ≡ requestedOf d level ⌝ }
+    ensures { λ r. ⌜ r ≡ requestOf d level ⌝ }
 {
     let valid = state_valid(d.status, d.pending);
     if !valid {
@@ -306,7 +306,7 @@ fn done(d: Desk, registers: [u32; 16], status: u32) -> StepReply
 // What becomes of a command of desk d that ended so, with these registers.
 fn conclude(d: Desk, mem: &mut [u8], work: [u32; 16], out: Out) -> StepReply
     requires { ⌜ Blocks d (now mem) ⌝ }
-    ensures { λ r. ⌜ stepped r (now (mem .exit)) ≡ endedBy d (now (mem .entry)) (outAs out work (now (mem .entry))) ⌝ }
+    ensures { λ r. ⌜ stepped r (now (mem .exit)) ≡ concludedEnd d (now (mem .entry)) (outAs out work (now (mem .entry))) ⌝ }
 {
     match out {
         Out::Done(s) => done(d, work, s),
@@ -374,7 +374,7 @@ fn one_step(d: Desk, mem: &mut [u8]) -> StepReply
     }
 }
 
-// The running desk with registers and status from locals.
+// The desk, running, with these registers and this status.
 fn running(d: Desk, registers: [u32; 16], status: u32) -> Desk
     ensures { λ r. ⌜ r ≡ deskWith d registers status (d .pending) Mark.Running ⌝ }
 {
@@ -437,7 +437,7 @@ fn steps(d: Desk, mem: &mut [u8], n: u64) -> RunReply
 
 // One step.
 pub fn step(d: Desk, mem: &mut [u8]) -> StepReply
-    ensures { λ r. ⌜ stepped r (now (mem .exit)) ≡ steppedOf d (now (mem .entry)) ⌝ }
+    ensures { λ r. ⌜ stepped r (now (mem .exit)) ≡ stepOf d (now (mem .entry)) ⌝ }
 {
     let q = refusal(d, mem.len());
     match q {

@@ -1,4 +1,4 @@
--- Each operation's result by unsigned arithmetic on numbers of L bytes, for any L, as the code computes it. Assumes nothing.
+-- Each operation's result by unsigned arithmetic on numbers of L bytes, for any L, as the code computes it.
 use Prim.Native.Nat.{ℕ, _+_, _-_, _*_, _/_, _%_, _≤_, _<_}
 use mathlib.Core.Path.{_≡_}
 use mathlib.Core.Bool.{false, not, _&&_}
@@ -10,7 +10,7 @@ use Rattle.mi.specs.Integers.{half, negative, resultOf, added, subtracted, mult
 use Rattle.mi.proofs.Widths.{by-sign}
 use Rattle.mi.proofs.Results.{kept-sum, kept-difference, kept-product}
 use Rattle.mi.proofs.Biased.{biased, biased-order, biased-sum-fits, biased-difference-fits}
-use Rattle.mi.proofs.Sizes.{differ, size, product-fits, quotient-fits-by-size, kept-quotient}
+use Rattle.mi.proofs.Magnitudes.{differ, magnitude, product-fits, quotient-fits-by-magnitude, kept-quotient}
 
 module _ (L a b : ℕ) (wide : 1 ≤ L) (fa : a < span L) (fb : b < span L) where
   pub added-is : added L a b
@@ -29,22 +29,22 @@ module _ (L a b : ℕ) (wide : 1 ≤ L) (fa : a < span L) (fb : b < span L) wher
 
   pub multiplied-is : multiplied L a b
       ≡ resultOf L (b * a % span L)
-      (not (pick (differ (negative L b) (negative L a)) (leb (size L b * size L a) (half L)) (ltb (size L b * size L a) (half L))))
+      (not (pick (differ (negative L b) (negative L a)) (leb (magnitude L b * magnitude L a) (half L)) (ltb (magnitude L b * magnitude L a) (half L))))
       false
   unfolding multiplied
   multiplied-is = rw (kept-product L a b, product-fits L a b wide fa fb)
 
   pub divided-is : divided L a b
-      ≡ resultOf L (pick (differ (negative L b) (negative L a)) (span L - size L b / size L a) (size L b / size L a) % span L)
-      (not (pick (differ (negative L b) (negative L a)) (leb (size L b / size L a) (half L)) (ltb (size L b / size L a) (half L))))
+      ≡ resultOf L (pick (differ (negative L b) (negative L a)) (span L - magnitude L b / magnitude L a) (magnitude L b / magnitude L a) % span L)
+      (not (pick (differ (negative L b) (negative L a)) (leb (magnitude L b / magnitude L a) (half L)) (ltb (magnitude L b / magnitude L a) (half L))))
       false
   unfolding divided
-  divided-is = rw (kept-quotient L a b wide fa fb, quotient-fits-by-size L a b wide fa fb)
+  divided-is = rw (kept-quotient L a b wide fa fb, quotient-fits-by-magnitude L a b wide fa fb)
 
   pub compared-is : compared L a b ≡ flags (ltb (biased L a) (biased L b)) (eqb a b) false false
   unfolding compared
   compared-is = rw (biased-order L a b wide fa fb)
 
-pub size-positive : (L x : ℕ) → x < span L → 0 < x → 0 < size L x
-unfolding size
-size-positive L x f h = by-sign L x (λ t. 0 < pick t (span L - x) x) (λ q. omega arith) (λ q. h)
+pub magnitude-positive : (L x : ℕ) → x < span L → 0 < x → 0 < magnitude L x
+unfolding magnitude
+magnitude-positive L x f h = by-sign L x (λ t. 0 < pick t (span L - x) x) (λ q. omega arith) (λ q. h)

@@ -1,4 +1,4 @@
--- Numbers of one size, kept in words of 32 bits. Assumes nothing.
+-- Numbers of one size, kept in words of 32 bits.
 use Prim.Native.Nat.{ℕ, _+_, _-_, _*_, _%_, _^_, _≤_, _<_}
 use mathlib.Core.Path.{_≡_, sym, ap₂, _∙_}
 use native.Mathlib.Nat.{mod-eq-of-lt, mod-eq-sub-mod, add-zero, mul-le-mul}

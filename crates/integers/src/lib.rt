@@ -254,7 +254,7 @@ pub fn shift(a: u32, b: u32) -> Result
     shift_right(4294967295 - a + 1, b)
 }
 
-// The word twice over, of which the upper half after n times to the left is left.
+// The word twice, side by side: shifted left by n, its upper half is the word rotated.
 pub fn rotate(a: u32, b: u32) -> Result
     ensures value { λ r. ⌜ r ≡ rotated a b ⌝ }
     ensures small { λ r. ⌜ r .flags < 16 ⌝ }

@@ -42,8 +42,8 @@ fn put_word(mem: &mut [u8], a: usize, w: u32)
     requires { ⌜ a + 4 ≤ length (now mem) ⌝ }
     ensures { λ r. ⌜ now (mem .exit) ≡ commit (realWritesFrom a (bytesOf 4 w)) (now (mem .entry)) ⌝ }
 {
-    mem[a] = (w / 16777216 % 256) as u8;
-    mem[a + 1] = (w / 65536 % 256) as u8;
+    mem[a] = (w / 0x100_0000 % 256) as u8;
+    mem[a + 1] = (w / 0x1_0000 % 256) as u8;
     mem[a + 2] = (w / 256 % 256) as u8;
     mem[a + 3] = (w % 256) as u8;
 }

@@ -1,4 +1,4 @@
--- A step or run that is not refused: what that tells of the desk, and that the desk which an accepted step leaves is accepted or stopped. Assumes nothing.
+-- A step or run that is not refused: what that tells of the desk, and that the desk which an accepted step leaves is accepted or stopped.
 use Prim.Native.Nat.{ℕ, zero, suc, _+_, _-_, _*_, _/_, _%_, _^_, _≤_}
 use mathlib.Core.Path.{_≡_, refl}
 use mathlib.Core.Bool.{Bool, true, false, not, _&&_}
@@ -19,8 +19,8 @@ use Rattle.mi.specs.State.{Registers, allowedLength, userMode, levelOf, 
 use Rattle.mi.specs.Alarms.{OrAlarm, got, alarm}
 use Rattle.mi.specs.Map.{View, realOf, viewOf, RealWrites, located, commit}
 use Rattle.mi.specs.Commands.{Done, Act, done, modal, SystemCall, userCommand, KernelEffect, halts, resumes}
-use Rattle.mi.specs.Steps.{Outcome, Course, enters, stop, halt, goOn, due, written, ofCommand, interrupted, userCourse, enterIf, concluded, userStep, resume, kernelWritten, ofKernelCommand, kernelStep, oneStep}
-use Rattle.mi.specs.Calls.{passes1, passes2, passes3, passes4, passes5, firstRefused, stepRefusal, unlessRefused, stepOf, ran, stepsOf}
+use Rattle.mi.specs.Steps.{Outcome, Course, enters, stop, halt, completed, due, userWritten, ofUserCommand, interrupted, userCourse, enterIf, concluded, userStep, resume, kernelWritten, ofKernelCommand, kernelStep, oneStep}
+use Rattle.mi.specs.Calls.{passes1, passes2, passes3, passes4, passes5, firstRefused, stepRefusal, unlessRefused, stepOutcome, ran, stepsOf}
 use Rattle.mi.proofs.Widths.{and-true}
 
 -- ---- Each refusal's test has nothing to refuse
@@ -125,8 +125,8 @@ module _ (d : Desk) (n : ℕ) (p : Passes d n) where
   unfolding halt
   halt-lasts r e = absurd (let z : _≡_ {A = ℕ} 0 1 = cc in omega arith)
 
-  go-lasts : (r : Registers) (f : ℕ) (ws : RealWrites) → Lasts n (goOn r (withFlags (d .status) f) ws d)
-  unfolding goOn passes5
+  go-lasts : (r : Registers) (f : ℕ) (ws : RealWrites) → Lasts n (completed r (withFlags (d .status) f) ws d)
+  unfolding completed passes5
   go-lasts r f ws e = record {
     length = p .length;
     system = p .system;
@@ -151,13 +151,13 @@ module _ (d : Desk) (n : ℕ) (p : Passes d n) where
       }
       go false v e = stop-lasts 16 e
 
-  written-lasts : (block : Memory) (c : Done) (t : OrAlarm RealWrites) → Lasts n (concluded d block (written (d .registers) (d .status) (d .pending) c t))
-  unfolding written
+  written-lasts : (block : Memory) (c : Done) (t : OrAlarm RealWrites) → Lasts n (concluded d block (userWritten (d .registers) (d .status) (d .pending) c t))
+  unfolding userWritten
   written-lasts block c (got ws) = unfold concluded in go-lasts (c .registers) (c .flags) ws
   written-lasts block c (alarm k x) = enter-lasts block k (d .registers) x (d .pending) level-0
 
-  command-lasts : (block : Memory) (v : View) (t : OrAlarm (Act SystemCall)) → Lasts n (concluded d block (ofCommand (d .registers) (d .status) (d .pending) v t))
-  unfolding ofCommand
+  command-lasts : (block : Memory) (v : View) (t : OrAlarm (Act SystemCall)) → Lasts n (concluded d block (ofUserCommand (d .registers) (d .status) (d .pending) v t))
+  unfolding ofUserCommand
   command-lasts block v (got (done c)) = written-lasts block c (located v (c .writes))
   command-lasts block v (got (modal c)) = enter-lasts block 1 (c .registers) (c .argument) (d .pending) level-0
   command-lasts block v (alarm k x) = enter-lasts block k (d .registers) x (d .pending) level-0
@@ -211,8 +211,8 @@ module _ (d : Desk) (m : Memory) (p : Passes d (length m)) where
 
   -- ---- Runs
 
-  passed-step : stepOf d m ≡ oneStep d m
-  unfolding stepOf unlessRefused
+  passed-step : stepOutcome d m ≡ oneStep d m
+  unfolding stepOutcome unlessRefused
   passed-step = rw (accepted d (length m) p)
 
   -- one step more

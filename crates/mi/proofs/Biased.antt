@@ -1,4 +1,4 @@
--- Signed order, and overflow of sum and difference, by unsigned arithmetic on biased numbers of L bytes, for any L. Assumes nothing.
+-- Signed order, and overflow of sum and difference, by unsigned arithmetic on biased numbers of L bytes, for any L.
 use Prim.Native.Nat.{ℕ, suc, _+_, _-_, _%_, _≤_, _<_}
 use mathlib.Core.Path.{_≡_, ap₂, _∙_}
 use mathlib.Core.Bool.{_&&_}

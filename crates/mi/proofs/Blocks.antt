@@ -1,4 +1,4 @@
--- Blocks of words in memory: what is written word by word and read word by word, and a word of the system block. Assumes nothing.
+-- Blocks of words in memory: what is written word by word and read word by word, and a word of the system block.
 use Prim.Native.Nat.{ℕ, zero, suc, _+_, _-_, _*_, _/_, _%_, _≤_, _<_}
 use mathlib.Core.Path.{_≡_, ap, _∙_}
 use mathlib.Core.List.{List, [], _∷_, _++_}

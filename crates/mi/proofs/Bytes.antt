@@ -1,5 +1,5 @@
 -- The L bytes of a number, highest first, for any L: how many they are, how large, and that they read back; and a register of which L bytes are
--- written (document 000, 1.2; document 01, "B and H in a register are its low end; a write keeps the rest"). Assumes nothing.
+-- written (document 000, 1.2; document 01, "B and H in a register are its low end; a write keeps the rest").
 use Prim.Native.Nat.{ℕ, zero, suc, _+_, _*_, _/_, _%_, _<_}
 use mathlib.Core.Path.{_≡_, refl, ap, _∙_}
 use mathlib.Core.List.{List, [], _∷_}

@@ -1,5 +1,4 @@
 -- An integer as the difference of two natural numbers, `Gap z a b`: sums, products, order and residue of integers, as laws on natural numbers.
--- Assumes nothing.
 use Prim.Native.Nat.{ℕ, zero, suc, _+_, _-_, _*_, _/_, _%_, _≤_, _<_}
 use mathlib.Core.Path.{_≡_, refl, sym, ap, _∙_}
 use mathlib.Core.Bool.{Bool, true, false, cond}

@@ -1,4 +1,4 @@
--- Demand 3. No proof here looks into a command, so a change to the commands moves none of it. Assumes nothing.
+-- Demand 3. No proof here looks into a command, so a change to the commands moves none of it.
 use Prim.Native.Nat.{ℕ, suc}
 use mathlib.Core.Path.{_≡_, refl, sym, ap, _∙_, subst}
 use mathlib.Core.List.{List, [], _∷_}
@@ -6,16 +6,16 @@ use mathlib.Core.Option.{Option}
 use native.Mathlib.Omega.{arith}
 use lib.ListN.{length}
 use Rattle.mi.specs.declared.Desk.{Desk}
-use Rattle.mi.specs.Words.{pick, Memory, byteAt}
+use Rattle.mi.specs.Words.{Memory, byteAt}
 use Rattle.mi.specs.State.{systemBlockOf}
 use Rattle.mi.specs.Map.{viewOf, RealWrites, commit, InMap}
 use Rattle.mi.specs.Steps.{Event, quiet, entered, stopped, Outcome, oneStep}
-use Rattle.mi.specs.Calls.{stepRefusal, stepOf, unlessRefused}
-use Rattle.mi.specs.Isolation.{Call, step, request, answerOf, outcomeOf, nextDesk, nextMemory, eventOf, InSystemBlock, Premise, inUserMode, oneLength, sameMap, sameSystemBlock, sameReachedFrames, mapNotWritable, Holds, Changed, Alike, AllAlike, endAt, endOf, Isolated, Demand3}
+use Rattle.mi.specs.Calls.{stepOutcome}
+use Rattle.mi.specs.Isolation.{Call, step, request, refusalOf, outcomeOf, nextDesk, nextMemory, eventOf, InSystemBlock, inUserMode, oneLength, sameMap, sameSystemBlock, sameReachedFrames, mapNotWritable, Changed, Alike, AllAlike, endAt, endOf, Demand3}
 use Rattle.mi.proofs.Writes.{Each, each-map, commit-length, commit-same, commit-other, commit-from}
 use Rattle.mi.proofs.Views.{block-same, reached-same, writable-same}
 use Rattle.mi.proofs.UserCalls.{Kept, Fit}
-use Rattle.mi.proofs.Near.{Near, Free, Apart, near-view, call-fit, flip, near-next}
+use Rattle.mi.proofs.Indistinguishable.{Indistinguishable, Free, Apart, near-view, call-fit, flip, near-next}
 
 end-same : (i : ℕ) (ev : Event) (r s : Option (ℕ × Event)) → (ev ≡ quiet → r ≡ s) → endAt i ev r ≡ endAt i ev s
 end-same i quiet r s h = h refl
@@ -25,14 +25,14 @@ end-same i (stopped n) r s h = refl
 module _ (o : Desk) (m : Memory) (apart : Apart o m) where
   -- the two memories agree on the system block too
   record Inv (d : Desk) (x y : Memory) : Type 0 where
-    near : Near o m d x y
+    near : Indistinguishable o m d x y
     block : (a : ℕ) → InSystemBlock o a → byteAt x a ≡ byteAt y a
 
   sizes : (d : Desk) (x y : Memory) → Inv d x y → length x ≡ length y
-  sizes d x y h = omega (arith, h .near .sizex, h .near .sizey)
+  sizes d x y h = omega (arith, h .near .lengthx, h .near .lengthy)
 
-  call-same : (c : Call) (d : Desk) (x y : Memory) → Inv d x y → (answerOf c d x ≡ answerOf c d y) × (outcomeOf c d x ≡ outcomeOf c d y)
-  unfolding stepOf oneStep
+  call-same : (c : Call) (d : Desk) (x y : Memory) → Inv d x y → (refusalOf c d x ≡ refusalOf c d y) × (outcomeOf c d x ≡ outcomeOf c d y)
+  unfolding stepOutcome oneStep
   call-same step d x y h =
       let l = sizes d x y h in
       let u = h .near .kept .user in
@@ -48,14 +48,14 @@ module _ (o : Desk) (m : Memory) (apart : Apart o m) where
   changed-by (entered i s) d e ws x k h = (h .0, rw (h .1, k .control) (commit-from s (o .control .0) x))
   changed-by (stopped n) d e ws x k h = rw h
 
-  call-changes : (c : Call) (d : Desk) (x y : Memory) → Near o m d x y → Changed o m (eventOf c d x) x (nextMemory c d x)
+  call-changes : (c : Call) (d : Desk) (x y : Memory) → Indistinguishable o m d x y → Changed o m (eventOf c d x) x (nextMemory c d x)
   call-changes c d x y h = changed-by (eventOf c d x) d (nextDesk c d x) ((outcomeOf c d x) .writes) x (h .kept) (call-fit o m d c x y h)
 
   alike : (c : Call) (d : Desk) (x y : Memory) → Inv d x y → Alike o m c d x d y
   alike c d x y h =
       let same = call-same c d x y h in
       record {
-        answers = same .0;
+        refusals = same .0;
         desks = ap (λ r. r .desk) (same .1);
         reached = λ a r. rw (same .1) (commit-same ((outcomeOf c d y) .writes) x y a (sizes d x y h) (h .near .frames a r));
         events = ap (λ r. r .event) (same .1);
@@ -90,8 +90,8 @@ demand3 d m n holds cs =
     let all = all-alike d m (holds mapNotWritable) cs d m n (record {
       near = record {
         kept = record { user = holds inUserMode; base = refl; entries = refl; system = refl; control = refl };
-        sizex = refl;
-        sizey = sym size;
+        lengthx = refl;
+        lengthy = sym size;
         mapx = λ a r. refl;
         mapy = λ a r. sym (holds sameMap a r);
         frames = holds sameReachedFrames;

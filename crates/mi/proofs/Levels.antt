@@ -1,4 +1,4 @@
--- The pending set: the level that is due, one level down at a time, that it is pending, and that a level fits beside the others. Assumes nothing.
+-- The pending set: the level that is due, one level down at a time, that it is pending, and that a level fits beside the others.
 use Prim.Native.Nat.{ℕ, zero, suc, _+_, _-_, _*_, _/_, _%_, _^_, _≤_, _<_}
 use mathlib.Core.Path.{_≡_, refl, ap, _∙_}
 use mathlib.Core.Bool.{Bool, true, false, _&&_, and-false}

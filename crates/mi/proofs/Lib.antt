@@ -1,21 +1,28 @@
+-- Laws and theorems about the definitions, by what they are on.
+
+-- numbers of any width
 pub mod Differences
 pub mod Widths
 pub mod Results
-pub mod Bytes
 pub mod Biased
-pub mod Sizes
+pub mod Magnitudes
 pub mod Shifts
-pub mod Levels
-pub mod WholeStep
-pub mod TriedValues
-pub mod NearMisses
+pub mod Bytes
+-- memory: writes, views, pages, blocks
 pub mod Writes
 pub mod Views
 pub mod Pages
 pub mod Blocks
+-- steps and calls
+pub mod Levels
 pub mod Refusals
+pub mod Accepted
 pub mod UserCalls
-pub mod Near
+-- computed: the tried values and the near misses
+pub mod WholeStep
+pub mod TriedValues
+pub mod NearMisses
+-- demand 3
+pub mod Indistinguishable
 pub mod Isolation
 pub mod Premises
-pub mod Accepted

@@ -1,5 +1,5 @@
 -- What the lookup of a first byte tells of the bytes after it: its alarm is theirs, and a byte that is found has the rest of its page beside it, so that
--- writes of any number of bytes in one page go to one place. In kernel mode this rests on a memory of whole frames. Assumes nothing.
+-- writes of any number of bytes in one page go to one place. In kernel mode this rests on a memory of whole frames.
 use Prim.Native.Nat.{ℕ, zero, suc, _+_, _-_, _/_, _%_, _≤_, _<_}
 use mathlib.Core.Path.{_≡_, refl, ap}
 use mathlib.Core.Bool.{Bool, true, false}

@@ -1,4 +1,4 @@
--- The premises of demand 3 can be met, and each is needed: desks and memories of 2,048 bytes that show it. Assumes nothing.
+-- The premises of demand 3 can be met, and each is needed: desks and memories of 2,048 bytes that show it.
 use Prim.Native.Nat.{ℕ, zero, suc, _-_, _/_, _<_, _≤_}
 use mathlib.Core.Path.{_≡_, refl, sym, ap}
 use mathlib.Core.Logic.{_≢_}
@@ -12,17 +12,13 @@ use lib.ListN.{length, replicate, set, length-set}
 use lib.Seq.{getD-set-other}
 use Rattle.mi.specs.declared.Desk.{Desk}
 use Rattle.mi.specs.declared.Mark.the-variants.{Running}
-use Rattle.mi.specs.Words.{Memory, byteAt, bytesOf, wordAt}
-use Rattle.mi.specs.State.{reg, userMode, frameAround, allowedLength, withFlags, validStatus, validKernelStatus, isPending, withLevel, systemBlockOf, savedBytes, blockFits}
-use Rattle.mi.specs.Map.{mapEntry, present, writable, frameOf, undamaged, inFrame, allows, inNumberOrder, mapped, unmapped, viewBy, readFrom, writesFrom, located, commit, Reached}
-use Rattle.mi.specs.Code.{table, knownIn, known}
-use Rattle.mi.specs.Operands.{fieldsAt, keepsRules, byForm, operandAt, valueIn, targetIn, takenBy, withTaken, operandsFrom}
-use Rattle.mi.specs.Integers.{negative, signed, fits, modulo, resultOf, added, operate}
-use Rattle.mi.specs.Commands.{keptRest, stored, commonDone, knownOr12, allowedInUserMode, allowedInKernelMode, actOf, commandBy, userCommand, kernelCommand}
-use Rattle.mi.specs.Steps.{goOn, due, written, ofCommand, interrupted, userCourse, enterIf, concluded, userStep, kernelWritten, ofKernelCommand, kernelStep, oneStep}
-use Rattle.mi.specs.Calls.{passes5, passes6, firstRefused, stepRefusal, unlessRefused, stepOf, requestRefusal, requestOf}
+use Rattle.mi.specs.Words.{Memory, byteAt}
+use Rattle.mi.specs.State.{reg, userMode, frameAround, savedBytes}
+use Rattle.mi.specs.Map.{mapEntry, present, frameOf, undamaged, Reached}
+use Rattle.mi.specs.Calls.{passes6, requestRefusal, requestOutcome}
 use Rattle.mi.specs.Isolation.{step, Premise, inUserMode, oneLength, sameMap, sameSystemBlock, sameReachedFrames, mapNotWritable, Holds}
 use Rattle.mi.specs.Premises.{Met, Needed, EachNeeded}
+use Rattle.mi.proofs.WholeStep.{wholeStep}
 
 -- ---- The desks and the memories
 
@@ -139,7 +135,7 @@ register i d = reg (d .registers) i
 
 -- to unfold this is to unfold all that the calls below compute with
 computing : Unit {0}
-unfolding deskAt code block filled memoryOf bytesOf wordAt allowedLength withFlags validStatus validKernelStatus isPending withLevel systemBlockOf blockFits mapEntry present writable frameOf undamaged inFrame allows inNumberOrder mapped unmapped viewBy readFrom writesFrom located commit table knownIn known fieldsAt keepsRules byForm operandAt valueIn targetIn takenBy withTaken operandsFrom negative signed fits modulo resultOf added operate keptRest stored commonDone knownOr12 allowedInUserMode allowedInKernelMode actOf commandBy userCommand kernelCommand goOn due written ofCommand interrupted userCourse enterIf concluded userStep kernelWritten ofKernelCommand kernelStep oneStep passes5 passes6 firstRefused stepRefusal unlessRefused stepOf requestRefusal requestOf namesFrame reaches register
+unfolding wholeStep deskAt code block filled memoryOf passes6 requestRefusal requestOutcome namesFrame reaches register
 computing = tt
 
 -- ---- All premises met

@@ -1,5 +1,5 @@
 -- Kept results of sum, difference, product and quotient on numbers of L bytes, for any L: their bytes, carry and borrow, and the one quotient that
--- does not fit (document 000, 2.5.2 to 2.5.5; document 01, "One step"). Assumes nothing.
+-- does not fit (document 000, 2.5.2 to 2.5.5; document 01, "One step").
 use Prim.Native.Nat.{ℕ, suc, _+_, _-_, _*_, _/_, _%_, _≤_, _<_}
 use mathlib.Core.Path.{_≡_, refl, _∙_}
 use mathlib.Core.Bool.{Bool, true, false, not, _&&_}

@@ -1,4 +1,4 @@
--- Shifts and rotations of a word by unsigned arithmetic, for any count (document 000, 2.5; document 01, "One step"). Assumes nothing.
+-- Shifts and rotations of a word by unsigned arithmetic, for any count (document 000, 2.5; document 01, "One step").
 use Prim.Native.Nat.{ℕ, suc, _+_, _-_, _*_, _/_, _%_, _^_, _≤_, _<_}
 use mathlib.Core.Path.{_≡_, refl, sym, ap, _∙_}
 use native.Mathlib.Nat.{mul-assoc, add-mul-div-right}
@@ -7,7 +7,7 @@ use lib.Pow.{pow-add, pow-pos}
 use Rattle.mi.specs.Words.{pick, span}
 use Rattle.mi.specs.Integers.{half, negative, plain, shiftedLeft, shiftedRight, shifted, rotated}
 use Rattle.mi.proofs.Widths.{signed-low-is, signed-high-is}
-use Rattle.mi.proofs.Sizes.{kept-shift, modulo-signed}
+use Rattle.mi.proofs.Magnitudes.{kept-shift, modulo-signed}
 
 -- ---- Shifts
 

@@ -1,5 +1,5 @@
--- The tried values hold: each side computes to the other. Assumes nothing.
-use mathlib.Core.Path.{_≡_, refl}
+-- The tried values hold: each side computes to the other.
+use mathlib.Core.Path.{refl}
 use Rattle.mi.specs.TriedValues.{I, R, memoryWith, kernelDesk, ranOn, afterPUSHR, afterPOPR, TriedValues}
 use Rattle.mi.proofs.WholeStep.{wholeStep}
 

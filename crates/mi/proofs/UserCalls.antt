@@ -1,21 +1,21 @@
--- What one call of a desk in user mode may do, whatever its commands are: no proof here looks into a command. Assumes nothing.
-use Prim.Native.Nat.{ℕ, zero, suc, _+_, _*_, _/_, _%_, _<_, _≤_}
-use mathlib.Core.Path.{_≡_, refl, sym, ap, _∙_}
+-- What one call of a desk in user mode may do, whatever its commands are: no proof here looks into a command.
+use Prim.Native.Nat.{ℕ, zero, suc, _*_, _<_}
+use mathlib.Core.Path.{_≡_, refl, ap}
 use mathlib.Core.Bool.{Bool, true, false}
-use mathlib.Core.List.{List, [], _∷_, _++_}
+use mathlib.Core.List.{List, [], _∷_}
 use native.Mathlib.Omega.{arith}
 use borrow.Author.Tests.{ltb-true, lt-ltb}
 use lib.ListN.{length, length-append}
 use Rattle.mi.specs.declared.Desk.{Desk}
 use Rattle.mi.specs.declared.Answer.{Answer}
 use Rattle.mi.specs.declared.Answer.the-variants.{Accepted, Refused}
-use Rattle.mi.specs.Words.{pick, Memory, bytesOf, bytesOfWords}
+use Rattle.mi.specs.Words.{Memory, bytesOf, bytesOfWords}
 use Rattle.mi.specs.State.{Registers, userMode, levelOf, flagsOf, withFlags, validKernelStatus, entryR15, entryStatus, registersFrom, savedBytes}
 use Rattle.mi.specs.Alarms.{OrAlarm, got, alarm}
 use Rattle.mi.specs.Map.{View, VirtualWrites, RealWrites, realWritesFrom, located}
 use Rattle.mi.specs.Commands.{Done, Act, done, modal, SystemCall, userCommand}
-use Rattle.mi.specs.Steps.{Event, quiet, entered, stopped, Outcome, stop, goOn, Course, goesOn, enters, due, written, ofCommand, interrupted, userCourse, enterIf, concluded, userStep}
-use Rattle.mi.specs.Calls.{unchanged, unlessRefused, requestRefusal, requestOf}
+use Rattle.mi.specs.Steps.{Event, quiet, entered, stopped, Outcome, stop, completed, Course, goesOn, enters, due, userWritten, ofUserCommand, interrupted, userCourse, enterIf, concluded, userStep}
+use Rattle.mi.specs.Calls.{unchanged, unlessRefused, requestRefusal, requestOutcome}
 use Rattle.mi.proofs.Writes.{Each}
 use Rattle.mi.proofs.Views.{EachLocated}
 
@@ -59,13 +59,13 @@ FitCourse P (goesOn r s ws) = (s < 0x8000_0000) × Each P ws
 FitCourse P (enters i r x p) = Unit {0}
 
 module _ (P : ℕ → Type 0) (r : Registers) (s p : ℕ) (user : s < 0x8000_0000) where
-  written-fit : (d : Done) (q : OrAlarm RealWrites) → EachLocated P q → FitCourse P (written r s p d q)
-  unfolding written withFlags
+  written-fit : (d : Done) (q : OrAlarm RealWrites) → EachLocated P q → FitCourse P (userWritten r s p d q)
+  unfolding userWritten withFlags
   written-fit d (got ws) h = (omega arith, h)
   written-fit d (alarm n x) h = tt
 
-  command-fit : (v : View) (a : OrAlarm (Act SystemCall)) → ((ws : VirtualWrites) → EachLocated P (located v ws)) → FitCourse P (ofCommand r s p v a)
-  unfolding ofCommand
+  command-fit : (v : View) (a : OrAlarm (Act SystemCall)) → ((ws : VirtualWrites) → EachLocated P (located v ws)) → FitCourse P (ofUserCommand r s p v a)
+  unfolding ofUserCommand
   command-fit v (got (done d)) h = written-fit d (located v (d .writes)) (h (d .writes))
   command-fit v (got (modal c)) h = tt
   command-fit v (alarm n x) h = tt
@@ -88,7 +88,7 @@ module _ (d : Desk) (P : ℕ → Type 0) (user : userMode (d .status) ≡ true) 
   enter-fit true i r x p new s = (length-saved r (d .status) x, refl)
 
   concluded-fit : (block : Memory) (c : Course) → FitCourse P c → FitOutcome d P (concluded d block c)
-  unfolding concluded goOn
+  unfolding concluded completed
   concluded-fit block (goesOn r s ws) h = (record { user = lt-ltb s 0x8000_0000 (h .0); base = refl; entries = refl; system = refl; control = refl }, h .1)
   concluded-fit block (enters i r x p) h = enter-fit (validKernelStatus (entryStatus block i)) i r x p (entryR15 block i) (entryStatus block i)
 
@@ -101,6 +101,6 @@ module _ (d : Desk) (P : ℕ → Type 0) (user : userMode (d .status) ≡ true) 
   unless-fit Accepted o h = h
   unless-fit (Refused k) o h = (record { user = user; base = refl; entries = refl; system = refl; control = refl }, tt)
 
-  pub request-fit : (level : ℕ) → FitOutcome d P (requestOf d level)
-  unfolding requestOf
+  pub request-fit : (level : ℕ) → FitOutcome d P (requestOutcome d level)
+  unfolding requestOutcome
   request-fit level = unless-fit (requestRefusal d level) _ (record { user = user; base = refl; entries = refl; system = refl; control = refl }, tt)

@@ -1,8 +1,8 @@
--- What a view tells: when two memories show one view, and that what a view places lies in writable reached frames. Assumes nothing.
-use Prim.Native.Nat.{ℕ, zero, suc, _+_, _*_, _/_, _%_, _<_, _≤_}
-use mathlib.Core.Path.{_≡_, refl, sym, ap, _∙_, fun-ext}
+-- What a view tells: when two memories show one view, and that what a view places lies in writable reached frames.
+use Prim.Native.Nat.{ℕ, _+_, _*_, _/_, _%_, _<_, _≤_}
+use mathlib.Core.Path.{_≡_, refl, ap, _∙_, fun-ext}
 use mathlib.Core.Bool.{Bool, true, false}
-use mathlib.Core.List.{List, [], _∷_}
+use mathlib.Core.List.{[], _∷_}
 use native.Mathlib.Omega.{arith}
 use borrow.Author.Tests.{ltb-true, leb-true}
 use lib.Dec.{ltb, leb}
@@ -17,7 +17,7 @@ use Rattle.mi.specs.declared.Desk.{Desk}
 use Rattle.mi.specs.Words.{pick, Memory, byteAt, wordAt}
 use Rattle.mi.specs.State.{frameAround, systemBlockOf}
 use Rattle.mi.specs.Alarms.{OrAlarm, got, alarm, _>>=_}
-use Rattle.mi.specs.Map.{pageOf, mapEntry, present, writable, frameOf, undamaged, Found, foundAt, inFrame, allows, inNumberOrder, mapped, VirtualWrites, RealWrites, located, Names, Reached, WritableReached, InMap}
+use Rattle.mi.specs.Map.{pageOf, mapEntry, present, frameOf, undamaged, Found, foundAt, inFrame, allows, inNumberOrder, mapped, VirtualWrites, RealWrites, located, Names, Reached, WritableReached, InMap}
 use Rattle.mi.specs.Isolation.{InSystemBlock}
 use Rattle.mi.proofs.Writes.{Each}
 
@@ -74,8 +74,8 @@ unfolding inFrame
 frame-of-real f x = let e : f .0 ≡ (512 * f .0 + x .0 % 512) / 512 = omega arith in ap (λ (k : ℕ). record { 0 = k }) e
 
 module _ (base : RealAddress) (entries : ℕ) (m x y : Memory)
-    (sizex : length x ≡ length m) (mapx : (a : ℕ) → InMap base entries m a → byteAt x a ≡ byteAt m a)
-    (sizey : length y ≡ length m) (mapy : (a : ℕ) → InMap base entries m a → byteAt y a ≡ byteAt m a)
+    (lengthx : length x ≡ length m) (mapx : (a : ℕ) → InMap base entries m a → byteAt x a ≡ byteAt m a)
+    (lengthy : length y ≡ length m) (mapy : (a : ℕ) → InMap base entries m a → byteAt y a ≡ byteAt m a)
     (frames : (a : ℕ) → Reached base entries m (frameAround a) → byteAt x a ≡ byteAt y a) where
   pub view-same : mapped base entries x ≡ mapped base entries y
   unfolding mapped inNumberOrder
@@ -87,7 +87,7 @@ module _ (base : RealAddress) (entries : ℕ) (m x y : Memory)
       go z w false q = refl
       go z w true q =
           let h = ltb-true (pageOf z) entries q in
-          rw (entry-same base entries m x sizex mapx (pageOf z) h, entry-same base entries m y sizey mapy (pageOf z) h, sizex, sizey)
+          rw (entry-same base entries m x lengthx mapx (pageOf z) h, entry-same base entries m y lengthy mapy (pageOf z) h, lengthx, lengthy)
           (order-same _ _ _ z _ x y λ t s. frames _ (record { page = pageOf z; names = record { below = h; there = t; whole = s; frame = frame-of-real _ z } }))
 
 -- ---- The system block
@@ -126,16 +126,16 @@ module _ (P : ℕ → Type 0) where
   join-each (alarm n x) b r p h = tt
   join-each (got f) b r p h = add-each f b r (p f refl) h
 
-module _ (base : RealAddress) (entries : ℕ) (m x : Memory) (sizex : length x ≡ length m) (mapx : (a : ℕ) → InMap base entries m a → byteAt x a ≡ byteAt m a) where
+module _ (base : RealAddress) (entries : ℕ) (m x : Memory) (lengthx : length x ≡ length m) (mapx : (a : ℕ) → InMap base entries m a → byteAt x a ≡ byteAt m a) where
   found-writable : (z : VirtualAddress) (f : Found) → mapped base entries x z Write ≡ got f → WritableReached base entries m (frameAround (f .real .0))
   unfolding mapped allows
   found-writable z f h =
       let g = order-got _ _ _ _ _ _ _ h in
       let below = ltb-true (pageOf z) entries (g .0) in
-      let e = entry-same base entries m x sizex mapx (pageOf z) below in
+      let e = entry-same base entries m x lengthx mapx (pageOf z) below in
       record {
         page = pageOf z;
-        names = record { below = below; there = rw e at (g .1); whole = rw (sizex, e) at (g .2); frame = frame-of-real _ z ∙ ap (λ (k : Found). frameAround (k .real .0)) (rw e at (g .4)) };
+        names = record { below = below; there = rw e at (g .1); whole = rw (lengthx, e) at (g .2); frame = frame-of-real _ z ∙ ap (λ (k : Found). frameAround (k .real .0)) (rw e at (g .4)) };
         write = rw e at (g .3);
       }
 

@@ -1,4 +1,4 @@
--- To compute whole steps: a proof that names `wholeStep` on its `unfolding` line has every definition unfolded that a step computes with. Assumes nothing.
+-- To compute whole steps: a proof that names `wholeStep` on its `unfolding` line has every definition unfolded that a step computes with.
 use Rattle.mi.specs.declared.Desk.{Desk}
 use Rattle.mi.specs.Words.{Memory, bytesOf, bytesOfWords, wordAt, wordsAt}
 use Rattle.mi.specs.State.{allowedLength, withFlags, validStatus, validUserStatus, validKernelStatus, isPending, withLevel, withoutLevel, systemBlockOf, registersFrom, savedBytes, blockFits}
@@ -7,9 +7,9 @@ use Rattle.mi.specs.Code.{table, knownIn, known}
 use Rattle.mi.specs.Operands.{fieldsAt, keepsRules, byForm, operandAt, valueIn, addressIn, targetIn, takenBy, withTaken, operandsFrom}
 use Rattle.mi.specs.Integers.{negative, signed, fits, modulo, resultOf, complement, added, subtracted, multiplied, divided, shiftedLeft, shiftedRight, shifted, rotated, operate, compared}
 use Rattle.mi.specs.Commands.{keptRest, stored, pushed, popped, called, returned, jumps, commonDone, knownOr12, allowedInUserMode, allowedInKernelMode, actOf, commandBy, userEffect, userCommand, kernelEffect, kernelCommand}
-use Rattle.mi.specs.Steps.{stop, halt, goOn, due, written, ofCommand, interrupted, userCourse, enterIf, concluded, userStep, resume, kernelWritten, ofKernelCommand, kernelStep, oneStep}
-use Rattle.mi.specs.Calls.{passes5, firstRefused, stepRefusal, unchanged, unlessRefused, stepOf, Stepped, steppedOf}
+use Rattle.mi.specs.Steps.{stop, halt, completed, due, userWritten, ofUserCommand, interrupted, userCourse, enterIf, concluded, userStep, resume, kernelWritten, ofKernelCommand, kernelStep, oneStep}
+use Rattle.mi.specs.Calls.{passes5, firstRefused, stepRefusal, unchanged, unlessRefused, stepOutcome, Stepped, stepOf}
 
 unfoldable pub wholeStep : Desk → Memory → Stepped
-unfolding bytesOf bytesOfWords wordAt wordsAt allowedLength withFlags validStatus validUserStatus validKernelStatus isPending withLevel withoutLevel systemBlockOf registersFrom savedBytes blockFits mapEntry present writable frameOf undamaged inFrame allows inNumberOrder mapped unmapped viewBy readFrom writesFrom realWritesFrom located commit table knownIn known fieldsAt keepsRules byForm operandAt valueIn addressIn targetIn takenBy withTaken operandsFrom negative signed fits modulo resultOf complement added subtracted multiplied divided shiftedLeft shiftedRight shifted rotated operate compared keptRest stored pushed popped called returned jumps commonDone knownOr12 allowedInUserMode allowedInKernelMode actOf commandBy userEffect userCommand kernelEffect kernelCommand stop halt goOn due written ofCommand interrupted userCourse enterIf concluded userStep resume kernelWritten ofKernelCommand kernelStep oneStep passes5 firstRefused stepRefusal unchanged unlessRefused stepOf steppedOf
-wholeStep d m = steppedOf d m
+unfolding bytesOf bytesOfWords wordAt wordsAt allowedLength withFlags validStatus validUserStatus validKernelStatus isPending withLevel withoutLevel systemBlockOf registersFrom savedBytes blockFits mapEntry present writable frameOf undamaged inFrame allows inNumberOrder mapped unmapped viewBy readFrom writesFrom realWritesFrom located commit table knownIn known fieldsAt keepsRules byForm operandAt valueIn addressIn targetIn takenBy withTaken operandsFrom negative signed fits modulo resultOf complement added subtracted multiplied divided shiftedLeft shiftedRight shifted rotated operate compared keptRest stored pushed popped called returned jumps commonDone knownOr12 allowedInUserMode allowedInKernelMode actOf commandBy userEffect userCommand kernelEffect kernelCommand stop halt completed due userWritten ofUserCommand interrupted userCourse enterIf concluded userStep resume kernelWritten ofKernelCommand kernelStep oneStep passes5 firstRefused stepRefusal unchanged unlessRefused stepOutcome stepOf
+wholeStep d m = stepOf d m

@@ -1,5 +1,4 @@
 -- Numbers of L bytes as signed numbers, for any L: sign, range, round trip, overflow and extension (document 000, 1.1.2; document 01, "One step").
--- Assumes nothing.
 use Prim.Native.Nat.{ℕ, zero, suc, _+_, _-_, _*_, _%_, _≤_, _<_}
 use mathlib.Core.Path.{_≡_, refl, sym, _∙_}
 use mathlib.Core.Bool.{Bool, true, false, _&&_}

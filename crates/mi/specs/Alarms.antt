@@ -1,4 +1,4 @@
--- Document 01, "Numbers 1 to 16", 8 to 15: whatever part of a command is tried gives its value, or an alarm with its number and argument. Assumes nothing.
+-- Document 01, "Numbers 1 to 16", 8 to 15: a part of a command gives a value, or an alarm with its number and argument.
 use Prim.Native.Nat.{ℕ}
 
 pub data OrAlarm (A : Type 0) : Type 0 where

@@ -1,5 +1,4 @@
 -- Document 01, "Numbers 1 to 16": the refusals 1 to 7, and the four calls, for every input: a fresh desk, a step, a run, a level request.
--- Assumes nothing.
 use Prim.Native.Nat.{ℕ, zero, suc}
 use mathlib.Core.Bool.{Bool, not, _&&_}
 use mathlib.Core.List.{List, [], _∷_}
@@ -39,7 +38,7 @@ abbrev pub answerNumber : Answer → ℕ
 answerNumber Accepted = 0
 answerNumber (Refused k) = refusalNumber k
 
--- what each number asks, here that it has nothing to refuse; n is the memory's length
+-- number k has nothing to refuse; n is the memory's length
 
 abbrev pub passes1 : ℕ → Bool
 passes1 n = allowedLength n
@@ -121,8 +120,8 @@ unfoldable pub unlessRefused : Answer → Desk → Outcome → Outcome
 unlessRefused Accepted d o = o
 unlessRefused (Refused k) d o = unchanged d
 
-unfoldable pub stepOf : Desk → Memory → Outcome
-stepOf d m = unlessRefused (stepRefusal d (length m)) d (oneStep d m)
+unfoldable pub stepOutcome : Desk → Memory → Outcome
+stepOutcome d m = unlessRefused (stepRefusal d (length m)) d (oneStep d m)
 
 -- the answer in the code's terms
 abbrev pub eventAnswer : Event → StepAnswer
@@ -134,7 +133,8 @@ abbrev pub stepAnswered : Answer → Event → StepAnswer
 stepAnswered Accepted e = eventAnswer e
 stepAnswered (Refused k) e = stepAnswer.Refused k
 
--- the paper's number of a step's answer: a refusal's, 0 for a command done, a cause, a stop's number
+-- the paper's number of a step's answer: a refusal's, a cause, a stop's number; 0 for a command done, for which the paper has none. The case tells which it
+-- is: 0 is also HALT's stop, 1 also the cause of a system call, and 8 to 15 are causes and stops
 abbrev pub stepAnswerNumber : StepAnswer → ℕ
 stepAnswerNumber (stepAnswer.Refused k) = refusalNumber k
 stepAnswerNumber stepAnswer.Done = 0
@@ -146,10 +146,10 @@ pub record Stepped : Type 0 where
   pub reply : StepReply
   pub memory : Memory
 
-unfoldable pub steppedOf : Desk → Memory → Stepped
-steppedOf d m = record {
-  reply = record { answer = stepAnswered (stepRefusal d (length m)) ((stepOf d m) .event); desk = (stepOf d m) .desk };
-  memory = commit ((stepOf d m) .writes) m;
+unfoldable pub stepOf : Desk → Memory → Stepped
+stepOf d m = record {
+  reply = record { answer = stepAnswered (stepRefusal d (length m)) ((stepOutcome d m) .event); desk = (stepOutcome d m) .desk };
+  memory = commit ((stepOutcome d m) .writes) m;
 }
 
 -- ---- A level request: it "tries only 5 and 6; otherwise it sets that bit, on a stopped desk too"
@@ -157,15 +157,15 @@ steppedOf d m = record {
 unfoldable pub requestRefusal : Desk → ℕ → Answer
 requestRefusal d level = firstRefused ((passes5 d, refusal.Status) ∷ (passes6 level, refusal.Level) ∷ [])
 
-unfoldable pub requestOf : Desk → ℕ → Outcome
-requestOf d level = unlessRefused (requestRefusal d level) d (record {
+unfoldable pub requestOutcome : Desk → ℕ → Outcome
+requestOutcome d level = unlessRefused (requestRefusal d level) d (record {
   desk = deskWith d (d .registers) (d .status) (withLevel (d .pending) level) (d .mark);
   event = quiet;
   writes = [];
 })
 
-unfoldable pub requestedOf : Desk → ℕ → Reply
-requestedOf d level = record { answer = requestRefusal d level; desk = (requestOf d level) .desk }
+unfoldable pub requestOf : Desk → ℕ → Reply
+requestOf d level = record { answer = requestRefusal d level; desk = (requestOutcome d level) .desk }
 
 -- ---- A run: "those steps, one after another, up to n or a stop"; it "answers with its step count, entries and stopping steps included, 0 when refused"
 
@@ -179,7 +179,7 @@ ran a k d m = record { reply = record { answer = a; steps = k; desk = d }; memor
 -- n steps more, after k. A step of a desk that was not refused is not refused either while the desk runs
 unfoldable pub stepsOf : ℕ → ℕ → Desk → Memory → Ran
 stepsOf zero k d m = ran Accepted k d m
-stepsOf (suc n) k d m = pick (isRunning (d .mark)) (stepsOf n (suc k) ((stepOf d m) .desk) (commit ((stepOf d m) .writes) m)) (ran Accepted k d m)
+stepsOf (suc n) k d m = pick (isRunning (d .mark)) (stepsOf n (suc k) ((stepOutcome d m) .desk) (commit ((stepOutcome d m) .writes) m)) (ran Accepted k d m)
 
 unfoldable pub runUnless : Answer → Desk → Memory → Ran → Ran
 runUnless Accepted d m o = o

@@ -1,4 +1,4 @@
--- Document 01, "Code": the table of command bytes, with the count, sizes and roles of each command's operands. Assumes nothing.
+-- Document 01, "Code": the table of command bytes, with the count, sizes and roles of each command's operands.
 use Prim.Native.Nat.{ℕ, _+_, _-_}
 use mathlib.Core.Bool.{_&&_}
 use mathlib.Core.List.{List, [], _∷_}

@@ -1,8 +1,8 @@
 -- Document 01, "One step": what one command does, from what it sees. "byte, mode, then each operand left to right .., the stack bytes read, from SP
--- upward, the operation, the bytes written". A command sees memory through a view alone, the memory from its start. Assumes nothing.
+-- upward, the operation, the bytes written". A command sees memory through a view alone, the memory from its start.
 use Prim.Native.Nat.{ℕ, zero, suc, _+_, _*_, _/_}
 use mathlib.Core.Bool.{Bool, true, not, _||_}
-use mathlib.Core.List.{[], _∷_, _++_}
+use mathlib.Core.List.{[], _++_}
 use mathlib.Core.Option.{Option, none, some}
 use lib.Dec.{eqb}
 use lib.ListN.{set}
@@ -41,8 +41,8 @@ stored L x (Memory a) r = record { registers = r; flags = x .flags; writes = wri
 
 -- ---- The stack
 
--- document 000, 2.5.1, PUSHR: "for i := 14 downto 0 do SP := SP - 4; S[SP] := Ri", here the turns that are left, for i - 1 downto 0. sp is SP, which is R14;
--- ws is what the turns before write, upward
+-- document 000, 2.5.1, PUSHR: "for i := 14 downto 0 do SP := SP - 4; S[SP] := Ri"; here the turns left, for i - 1 downto 0. sp is SP as the turns
+-- before left it, r the registers from the start, ws what the turns before write, upward, f the flags, which stay
 unfoldable pub pushed : ℕ → ℕ → Registers → VirtualWrites → ℕ → Done
 pushed zero sp r ws f = record { registers = set r 14 sp; flags = f; writes = ws }
 pushed (suc i) sp r ws f =

@@ -1,5 +1,5 @@
 -- Integer results and flags: document 000, 1.1.1 and 1.1.2, 2.5.1 to 2.5.5, and document 01, "One step", for any width of L bytes.
--- a is the first operand's value S[a1], b the second's, S[a2]. Assumes nothing.
+-- a is the first operand's value S[a1], b the second's, S[a2].
 use Prim.Native.Nat.{ℕ, _+_, _-_, _*_, _/_, _%_, _^_}
 use mathlib.Core.Bool.{Bool, false, not, _&&_}
 use lib.Dec.{ltb, leb, eqb}
@@ -75,8 +75,6 @@ multiplied L a b = exact L (signed L b *ℤ signed L a) false
 -- "DIV drops the fraction, and lowest ÷ −1 gives lowest"
 unfoldable pub divided : ℕ → ℕ → ℕ → Result
 divided L a b = exact L (quotZ (signed L b) (signed L a)) false
-
--- For counts of thousands and more the power is not to be computed, only reasoned with.
 
 -- a zero bit from the right each time; "SH left sets V when the result's sign differs from the operand's"
 unfoldable pub shiftedLeft : ℕ → ℕ → Result

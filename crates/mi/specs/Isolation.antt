@@ -1,6 +1,6 @@
 -- Demand 3 of the mission, with the last paragraph of document 01's "One step": a single claim about a list of steps and level requests, given alike to
 -- two desks in user mode that are equal except in memory. No validity of state or memory is assumed. The words "reached", "writable reached" and "the map's
--- bytes" are those of Map.antt, and mean the map as it is before the first call. Assumes nothing.
+-- bytes" are those of Map.antt, and mean the map as it is before the first call.
 use Prim.Native.Nat.{ℕ, suc, _+_, _≤_, _<_}
 use mathlib.Core.Bool.{true}
 use mathlib.Core.Path.{_≡_}
@@ -16,7 +16,7 @@ use Rattle.mi.specs.Words.{Memory, byteAt}
 use Rattle.mi.specs.State.{userMode, frameAround, systemBlockBytes}
 use Rattle.mi.specs.Map.{Reached, WritableReached, InMap, commit}
 use Rattle.mi.specs.Steps.{Event, quiet, entered, stopped, Outcome}
-use Rattle.mi.specs.Calls.{stepRefusal, stepOf, requestRefusal, requestOf}
+use Rattle.mi.specs.Calls.{stepRefusal, stepOutcome, requestRefusal, requestOutcome}
 
 -- ---- The list: "single steps and level requests, with any number as the level, in any order and of any length"
 
@@ -24,13 +24,13 @@ pub data Call : Type 0 where
   step : Call
   request : ℕ → Call
 
-abbrev pub answerOf : Call → Desk → Memory → Answer
-answerOf step d m = stepRefusal d (length m)
-answerOf (request level) d m = requestRefusal d level
+abbrev pub refusalOf : Call → Desk → Memory → Answer
+refusalOf step d m = stepRefusal d (length m)
+refusalOf (request level) d m = requestRefusal d level
 
 abbrev pub outcomeOf : Call → Desk → Memory → Outcome
-outcomeOf step d m = stepOf d m
-outcomeOf (request level) d m = requestOf d level
+outcomeOf step d m = stepOutcome d m
+outcomeOf (request level) d m = requestOutcome d level
 
 -- "Each call gets the state that the call before it returned, each step also the memory as the steps before it left it"
 abbrev pub nextDesk : Call → Desk → Memory → Desk
@@ -80,7 +80,7 @@ Changed o m (stopped n) x y = y ≡ x
 -- one call, given alike to desk d over memory x and to desk e over memory y
 pub record Alike (o : Desk) (m : Memory) (c : Call) (d : Desk) (x : Memory) (e : Desk) (y : Memory) : Type 0 where
   -- "they give the same refusals"
-  pub answers : answerOf c d x ≡ answerOf c e y
+  pub refusals : refusalOf c d x ≡ refusalOf c e y
   -- "and show equal registers, flags": "the whole state that travels by value (status, pending set and mark too)"
   pub desks : nextDesk c d x ≡ nextDesk c e y
   -- "and reached bytes after each of them"

@@ -22,7 +22,7 @@ pub mod Steps
 pub mod Calls
 -- demand 3
 pub mod Isolation
--- Tried values, marked *
-pub mod TriedValues
 -- demand 3's premises: met, and each needed
 pub mod Premises
+-- Tried values, marked *
+pub mod TriedValues

@@ -1,5 +1,4 @@
 -- Document 01, "Map": map entries, the lookup of one byte with alarms 8 to 11, and the words "damaged", "reached" and "writable reached".
--- Assumes nothing.
 use Prim.Native.Nat.{ℕ, zero, suc, _+_, _-_, _*_, _/_, _%_, _≤_, _<_}
 use mathlib.Core.Path.{_≡_}
 use mathlib.Core.Bool.{Bool, true, false, _&&_}

@@ -1,4 +1,4 @@
--- Document 01, "Code": the nine forms of an operand, their rules, and what an operand gives a command. Assumes nothing.
+-- Document 01, "Code": the nine forms of an operand, their rules, and what an operand gives a command.
 use Prim.Native.Nat.{ℕ, suc, _+_, _*_, _/_, _%_}
 use mathlib.Core.Bool.{Bool, true, false, not, _&&_}
 use mathlib.Core.List.{List, [], _∷_}
@@ -24,7 +24,7 @@ pub record Fields : Type 0 where
   pub y : ℕ
   pub z : ℕ
 
--- the address that a number means
+-- a number as an address: it wraps
 abbrev pub virtual : ℕ → VirtualAddress
 virtual a = record { 0 = wrap a }
 

@@ -1,4 +1,4 @@
--- The premises of demand 3: two memories that differ can meet them all, and none of them can be left out. Statements only. Assumes nothing.
+-- The premises of demand 3: two memories that differ can meet them all, and none of them can be left out. Statements only.
 use Prim.Native.Nat.{ℕ}
 use mathlib.Core.Path.{_≡_}
 use mathlib.Core.Logic.{_≢_}
@@ -12,7 +12,7 @@ use Rattle.mi.specs.declared.Answer.the-variants.{Accepted}
 use Rattle.mi.specs.Words.{Memory}
 use Rattle.mi.specs.State.{isRunning}
 use Rattle.mi.specs.Steps.{entered}
-use Rattle.mi.specs.Isolation.{Call, step, request, answerOf, nextDesk, nextMemory, Premise, Holds, endOf, Isolated}
+use Rattle.mi.specs.Isolation.{Call, step, request, refusalOf, nextDesk, nextMemory, Premise, Holds, endOf, Isolated}
 
 -- ---- Desks and memories that the code can meet, and calls that it carries out
 
@@ -31,7 +31,7 @@ holdable d m =
 
 abbrev pub AllAccepted : List Call → Desk → Memory → Type 0
 AllAccepted [] d m = Unit {0}
-AllAccepted (c ∷ cs) d m = (answerOf c d m ≡ Accepted) × AllAccepted cs (nextDesk c d m) (nextMemory c d m)
+AllAccepted (c ∷ cs) d m = (refusalOf c d m ≡ Accepted) × AllAccepted cs (nextDesk c d m) (nextMemory c d m)
 
 pub record Usable (cs : List Call) (d : Desk) (m : Memory) : Type 0 where
   pub held : holdable d m ≡ true

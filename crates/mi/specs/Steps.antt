@@ -1,6 +1,6 @@
 -- Document 01, "One step": the interrupt that is due, what becomes of a command in user mode and in kernel mode, kernel entry, RESUME, stops.
 -- A command comes to an `Act` (Commands.antt); a step in user mode takes a `Course` from it, without the system block; a step's `Outcome` is the state that
--- it leaves, an `Event`, and the bytes that it writes. Assumes nothing.
+-- it leaves, an `Event`, and the bytes that it writes.
 use Prim.Native.Nat.{ℕ, zero, suc, _+_}
 use mathlib.Core.Bool.{Bool, true, false, _&&_}
 use mathlib.Core.List.{List, []}
@@ -17,7 +17,7 @@ use Rattle.mi.specs.Commands.{Done, Act, done, modal, SystemCall, userCo
 
 -- ---- What a step shows
 
--- nothing but the state it leaves, as a refused call and a level request too; a kernel entry with its cause and saved bytes; a stop with its number
+-- quiet: nothing but the state that it leaves (a refused call and a level request too); a kernel entry with its cause and saved bytes; a stop with its number
 pub data Event : Type 0 where
   quiet : Event
   entered : ℕ → List ℕ → Event
@@ -39,8 +39,8 @@ unfoldable pub halt : Registers → Desk → Outcome
 halt r d = record { desk = deskWith d r (d .status) (d .pending) (Stopped 0); event = stopped 0; writes = [] }
 
 -- the registers, the status and the memory change, nothing else
-unfoldable pub goOn : Registers → ℕ → RealWrites → Desk → Outcome
-goOn r s ws d = record { desk = deskWith d r s (d .pending) (d .mark); event = quiet; writes = ws }
+unfoldable pub completed : Registers → ℕ → RealWrites → Desk → Outcome
+completed r s ws d = record { desk = deskWith d r s (d .pending) (d .mark); event = quiet; writes = ws }
 
 -- ---- User mode: what a step comes to, from registers r, status s, pending set p and view v alone
 
@@ -56,15 +56,15 @@ due zero p l = 0
 due (suc k) p l = pick (isPending p (suc k) && ltb l (suc k)) (suc k) (due k p l)
 
 -- "An alarm undoes the command's register changes and writes nothing": it saves the registers r from the command's start
-unfoldable pub written : Registers → ℕ → ℕ → Done → OrAlarm RealWrites → Course
-written r s p d (got ws) = goesOn (d .registers) (withFlags s (d .flags)) ws
-written r s p d (alarm n x) = enters n r x p
+unfoldable pub userWritten : Registers → ℕ → ℕ → Done → OrAlarm RealWrites → Course
+userWritten r s p d (got ws) = goesOn (d .registers) (withFlags s (d .flags)) ws
+userWritten r s p d (alarm n x) = enters n r x p
 
 -- cause "1 for a system call (argument its value, saved R15 the next command)", "the alarm number otherwise (saved R15 the command's own address)"
-unfoldable pub ofCommand : Registers → ℕ → ℕ → View → OrAlarm (Act SystemCall) → Course
-ofCommand r s p v (got (done d)) = written r s p d (located v (d .writes))
-ofCommand r s p v (got (modal c)) = enters 1 (c .registers) (c .argument) p
-ofCommand r s p v (alarm n x) = enters n r x p
+unfoldable pub ofUserCommand : Registers → ℕ → ℕ → View → OrAlarm (Act SystemCall) → Course
+ofUserCommand r s p v (got (done d)) = userWritten r s p d (located v (d .writes))
+ofUserCommand r s p v (got (modal c)) = enters 1 (c .registers) (c .argument) p
+ofUserCommand r s p v (alarm n x) = enters n r x p
 
 -- "the highest pending level above the status level is entered and its pending bit cleared": cause "16 + level", "argument the level"
 unfoldable pub interrupted : ℕ → Registers → ℕ → Course → Course
@@ -72,7 +72,7 @@ interrupted zero r p otherwise = otherwise
 interrupted (suc k) r p otherwise = enters (16 + suc k) r (suc k) (withoutLevel p (suc k))
 
 unfoldable pub userCourse : Registers → ℕ → ℕ → View → Course
-userCourse r s p v = interrupted (due 15 p (levelOf s)) r p (ofCommand r s p v (userCommand v r (flagsOf s)))
+userCourse r s p v = interrupted (due 15 p (levelOf s)) r p (ofUserCommand r s p v (userCommand v r (flagsOf s)))
 
 -- ---- Kernel entry
 
@@ -86,7 +86,7 @@ enterIf true d i r x p new s = record {
 }
 
 unfoldable pub concluded : Desk → Memory → Course → Outcome
-concluded d block (goesOn r s ws) = goOn r s ws d
+concluded d block (goesOn r s ws) = completed r s ws d
 concluded d block (enters i r x p) = enterIf (validKernelStatus (entryStatus block i)) d i r x p (entryR15 block i) (entryStatus block i)
 
 unfoldable pub userStep : Desk → View → Memory → Outcome
@@ -94,9 +94,8 @@ userStep d v block = concluded d block (userCourse (d .registers) (d .status) (d
 
 -- ---- Kernel mode: "an alarm stops the desk with its number"
 
--- RESUME of the block at address a, which is real: 14 where "RESUME's block breaks 3 or 4 or its status isn't a valid user status"; "A block that doesn't fit
--- is alarm 14, never 8";
--- else it "loads R0 to R15, status, map base and map length from the control block at its address, which becomes the control block"
+-- RESUME of the block at address a, which is real: it "loads R0 to R15, status, map base and map length from the control block at its address, which becomes
+-- the control block"; 14 where "RESUME's block breaks 3 or 4 or its status isn't a valid user status", since "A block that doesn't fit is alarm 14, never 8"
 unfoldable pub resume : Desk → Memory → RealAddress → Outcome
 resume d m a =
     let s = wordAt m (a .0 + 64) in
@@ -111,7 +110,7 @@ resume d m a =
     (stop 14 d)
 
 unfoldable pub kernelWritten : Desk → Done → OrAlarm RealWrites → Outcome
-kernelWritten d c (got ws) = goOn (c .registers) (withFlags (d .status) (c .flags)) ws d
+kernelWritten d c (got ws) = completed (c .registers) (withFlags (d .status) (c .flags)) ws d
 kernelWritten d c (alarm n x) = stop n d
 
 unfoldable pub ofKernelCommand : Desk → Memory → View → OrAlarm (Act KernelEffect) → Outcome

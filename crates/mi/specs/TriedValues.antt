@@ -1,5 +1,5 @@
 -- Document 01, "Tried values": those marked *, which "are proved in one table", and the memory lengths. *2 to *11 are whole steps of a desk over code in its
--- memory. The proof is `tried-values` of proofs/TriedValues.antt. Assumes nothing.
+-- memory. The proof is `tried-values` of proofs/TriedValues.antt.
 use Prim.Native.Nat.{ℕ, _+_, _-_, _*_}
 use mathlib.Core.Path.{_≡_}
 use mathlib.Core.Bool.{true, false}
@@ -10,7 +10,7 @@ use Rattle.mi.specs.declared.Desk.{Desk}
 use Rattle.mi.specs.declared.Mark.the-variants.{Running}
 use Rattle.mi.specs.Words.{Memory, bytesOf, wordAt}
 use Rattle.mi.specs.State.{reg, flagsOf, allowedLength}
-use Rattle.mi.specs.Calls.{Stepped, steppedOf}
+use Rattle.mi.specs.Calls.{Stepped, stepOf}
 
 -- ---- Code and numbers
 
@@ -47,7 +47,7 @@ kernelDesk i x = record {
 
 -- that desk and its memory of 512 bytes after one step, with R0 = x before it
 unfoldable pub ranOn : ℕ → List ℕ → Stepped
-ranOn x code = steppedOf (kernelDesk 0 x) (memoryWith 512 code)
+ranOn x code = stepOf (kernelDesk 0 x) (memoryWith 512 code)
 
 abbrev pub registerAfter : ℕ → Stepped → ℕ
 registerAfter i s = reg (s .reply .desk .registers) i
@@ -58,10 +58,10 @@ flagsAfter s = flagsOf (s .reply .desk .status)
 
 -- PUSHR with SP = 1000 over 1,024 bytes, and POPR on the desk and the memory that it leaves
 unfoldable pub afterPUSHR : Stepped
-afterPUSHR = steppedOf (kernelDesk 14 1000) (memoryWith 1024 (0x01 ∷ 0x02 ∷ []))
+afterPUSHR = stepOf (kernelDesk 14 1000) (memoryWith 1024 (0x01 ∷ 0x02 ∷ []))
 
 unfoldable pub afterPOPR : Stepped
-afterPOPR = steppedOf (afterPUSHR .reply .desk) (afterPUSHR .memory)
+afterPOPR = stepOf (afterPUSHR .reply .desk) (afterPUSHR .memory)
 
 -- ---- The table
 

@@ -14,7 +14,7 @@ pub struct RealAddress(pub u32);
 // A frame is 512 bytes of memory; frame f starts at 512 * f.
 pub struct FrameNumber(pub u32);
 
-// Why a byte is wanted.
+// Why a byte is wanted. Fetch and Read are allowed alike.
 pub enum Access {
     Fetch,
     Read,
@@ -156,7 +156,7 @@ impl Answer {
 }
 
 impl StepAnswer {
-    // The number of its refusal, its cause or its stop; 0 for a command done.
+    // The number of its refusal, its cause or its stop; 0 for a command done. The case tells which: 0 is also a HALT, 1 also a system call.
     pub fn number(self) -> u32
         ensures { λ r. ⌜ r ≡ stepAnswerNumber self ⌝ }
     {

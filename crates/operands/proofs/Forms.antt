@@ -1,4 +1,4 @@
--- A form that is none of the nine is above 8. Assumes nothing.
+-- A form that is none of the nine is above 8.
 use Prim.Native.Nat.{ℕ, _<_}
 use mathlib.Core.Logic.{_≢_}
 use native.Mathlib.Omega.{arith}

@@ -1,4 +1,4 @@
--- Operands from some place on: each rule that is left takes one operand, and the operands that are left give what all of them give. Assumes nothing.
+-- Operands from some place on: each rule that is left takes one operand, and the operands that are left give what all of them give.
 use Prim.Native.Nat.{ℕ, zero, suc, _+_, _*_, _/_, _^_, _<_}
 use mathlib.Core.Path.{_≡_, refl, sym, _∙_}
 use mathlib.Core.List.{[]}

@@ -1,4 +1,4 @@
--- What a role takes from an operand, by its parts. Assumes nothing.
+-- What a role takes from an operand, by its parts.
 use Prim.Native.Nat.{ℕ}
 use mathlib.Core.Path.{_≡_, refl, ap}
 use native.Mathlib.Omega.{arith}

@@ -1,4 +1,4 @@
--- What the answers of this crate's functions say, in the terms of `mi`. Assumes nothing.
+-- What the answers of this crate's functions say, in the terms of `mi`.
 use Prim.Native.Nat.{ℕ, _+_, _<_}
 use mathlib.Core.Path.{_≡_}
 use Rattle.mi.specs.declared.Role.{Role}
@@ -57,7 +57,7 @@ abbrev pub tookAs : Took → OrAlarm Taken
 tookAs (took.Got n t) = taken n t
 tookAs (took.Alarm n x) = alarm n x
 
--- so is a target
+-- a target that is a register is one of the sixteen
 abbrev pub SmallTarget : Target → Type 0
 SmallTarget target.Nowhere = Unit {0}
 SmallTarget (target.Register x) = x < 16

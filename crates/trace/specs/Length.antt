@@ -1,4 +1,4 @@
--- The memory length of `trace`: "the least allowed length that covers them". Assumes nothing.
+-- The memory length of `trace`: "the least allowed length that covers them".
 use Prim.Native.Nat.{ℕ, _+_, _*_, _/_}
 use lib.Dec.{leb}
 use Rattle.mi.specs.Words.{pick}

@@ -4,7 +4,7 @@ use native.Mathlib.Omega.{arith}
 use borrow.Author.Needs.{needs}
 use Rattle.mi.specs.Alarms.{got}
 use Rattle.mi.proofs.Pages.{read-alarm}
-use Rattle.access.proofs.Seats.{seat-found, seat-alarm, seat-inside}
+use Rattle.access.proofs.Lookups.{seat-found, seat-alarm, seat-inside}
 use Rattle.access.proofs.OneLookup.{one-byte-value, read-page}
 use Rattle.access.proofs.fetch.Statement.{statement}
 use Rattle.access.proofs.fetch.Tie as tie

@@ -5,7 +5,7 @@ use borrow.Author.Needs.{needs}
 use lib.ListN.{length}
 use Rattle.mi.specs.declared.Access.the-variants.{Fetch}
 use Rattle.mi.proofs.Pages.{Finds, page-inside}
-use Rattle.access.proofs.Seats.{seat-found, seat-alarm}
+use Rattle.access.proofs.Lookups.{seat-found, seat-alarm}
 use Rattle.access.proofs.OneLookup.{fields-page, fields-alarm}
 use Rattle.access.proofs.fields.Statement.{statement}
 use Rattle.access.proofs.fields.Tie as tie

@@ -4,7 +4,7 @@ use native.Mathlib.Omega.{arith}
 use borrow.Author.Needs.{needs}
 use Rattle.mi.specs.Alarms.{got}
 use Rattle.mi.proofs.Pages.{read-alarm, page-inside}
-use Rattle.access.proofs.Seats.{seat-found, seat-alarm}
+use Rattle.access.proofs.Lookups.{seat-found, seat-alarm}
 use Rattle.access.proofs.OneLookup.{length-bounds, read-page}
 use Rattle.access.proofs.read.Statement.{statement}
 use Rattle.access.proofs.read.Tie as tie

@@ -5,7 +5,7 @@ use native.Mathlib.Omega.{arith}
 use borrow.Author.Needs.{needs}
 use Rattle.mi.specs.Words.{span}
 use Rattle.mi.specs.Map.{readFrom, viewBy}
-use Rattle.access.proofs.Seats.{seat-found, seat-alarm, seat-inside}
+use Rattle.access.proofs.Lookups.{seat-found, seat-alarm, seat-inside}
 use Rattle.access.proofs.Reading.{three-bytes, one-byte-more, read-all, read-next, read-stops, read-ends}
 use Rattle.access.proofs.read_bytewise.Statement.{statement}
 use Rattle.access.proofs.read_bytewise.Tie as tie

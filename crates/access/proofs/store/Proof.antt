@@ -5,7 +5,7 @@ use borrow.Author.Needs.{needs}
 use Rattle.mi.specs.Words.{lengthOf, bytesOf}
 use Rattle.mi.proofs.Bytes.{bytes-length}
 use Rattle.mi.proofs.Pages.{located-alarm, located-page, page-inside}
-use Rattle.access.proofs.Seats.{seat-found, seat-alarm}
+use Rattle.access.proofs.Lookups.{seat-found, seat-alarm}
 use Rattle.access.proofs.OneLookup.{length-bounds}
 use Rattle.access.proofs.store.Statement.{statement}
 use Rattle.access.proofs.store.Tie as tie

@@ -8,7 +8,7 @@ use lib.ListN.{length-set, length}
 use Rattle.mi.proofs.Pages.{found-inside}
 use Rattle.mi.specs.Map.{viewBy, commit}
 use Rattle.access.specs.Answers.{wrote}
-use Rattle.access.proofs.Seats.{seat-found, seat-alarm}
+use Rattle.access.proofs.Lookups.{seat-found, seat-alarm}
 use Rattle.access.proofs.Storing.{all-located, one-stopped, one-placed, one-written, all-written, writesTo, Placed}
 use Rattle.access.proofs.store_bytes.Statement.{statement}
 use Rattle.access.proofs.store_bytes.Tie as tie

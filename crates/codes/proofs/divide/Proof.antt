@@ -1,4 +1,4 @@
--- `codes::divide`: the divisor's last L bytes are zero where the alarm is. Assumes nothing.
+-- `divide` is right: the divisor's last L bytes are zero where the alarm is.
 use borrow.Author.Needs.{needs}
 use borrow.Author.Tests.{ne-eqb}
 use Rattle.mi.specs.Integers.{operate}

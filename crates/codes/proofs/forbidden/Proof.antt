@@ -1,4 +1,4 @@
--- `codes::forbidden`: user mode is a status below 2 ^ 31. Assumes nothing.
+-- `forbidden` is right: user mode is a status below 2 ^ 31.
 use borrow.Author.Tests.{lt-ltb, le-ltb}
 use Rattle.codes.proofs.forbidden.Statement.{statement}
 use Rattle.codes.proofs.forbidden.Tie as tie

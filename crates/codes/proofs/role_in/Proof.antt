@@ -1,4 +1,4 @@
--- `codes::role_in`: the match goes by the number that the definition tests. Assumes nothing.
+-- `role_in` is right: the match goes by the number that the definition tests.
 use borrow.Author.Tests.{ne-eqb}
 use Rattle.codes.proofs.role_in.Statement.{statement}
 use Rattle.codes.proofs.role_in.Tie as tie

@@ -1,4 +1,4 @@
--- `codes::rules_of`: each number of the table reads as its byte's rules, and a byte past the table is unknown. Assumes nothing.
+-- `rules_of` is right: each number of the table reads as its byte's rules, and a byte past the table is unknown.
 use Prim.Native.Nat.{ℕ, _≤_, _<_}
 use mathlib.Core.Path.{_≡_, refl}
 use mathlib.Core.Bool.{true}
@@ -10,7 +10,7 @@ use lib.Dec.{ltb}
 use lib.ListN.{getD}
 use Rattle.mi.specs.Code.{table, knownIn, known}
 use Rattle.codes.specs.Rules.{rulesFrom, rulesIn, knownRules, numbersFrom, tableOf}
-use Rattle.codes.proofs.Bytes.{values, same}
+use Rattle.codes.proofs.Bytes.{same}
 use Rattle.codes.proofs.rules_of.Statement.{statement}
 use Rattle.codes.proofs.rules_of.Tie as tie
 

@@ -1,4 +1,4 @@
--- `codes::size_at`: a number that is neither 0 nor 1 is two more than some number. Assumes nothing.
+-- `size_at` is right: a number that is neither 0 nor 1 is two more than some number.
 use Prim.Native.Nat.{ℕ, zero, suc}
 use mathlib.Core.Path.{_≡_, refl}
 use borrow.Author.Needs.{needs}

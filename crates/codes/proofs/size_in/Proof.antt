@@ -1,4 +1,4 @@
--- `codes::size_in`: the match goes by the number that the definition tests. Assumes nothing.
+-- `size_in` is right: the match goes by the number that the definition tests.
 use borrow.Author.Tests.{ne-eqb}
 use Rattle.codes.proofs.size_in.Statement.{statement}
 use Rattle.codes.proofs.size_in.Tie as tie

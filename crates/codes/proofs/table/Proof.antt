@@ -1,4 +1,4 @@
--- `codes::table`: the constant table is the table of command bytes, each byte's rules as one number. Assumes nothing.
+-- `table` is right: the constant table is the table of command bytes, each byte's rules as one number.
 use mathlib.Core.Path.{refl}
 use Rattle.mi.specs.Code.{table, knownIn, known}
 use Rattle.codes.specs.Rules.{numbersFrom, tableOf}

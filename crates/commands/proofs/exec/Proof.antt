@@ -51,8 +51,8 @@ enum-known-o c = search needs
 enum-known-o-2 : tie.Need-enum-known-o-2
 enum-known-o-2 c = search needs
 
-act-of-requires : tie.Need-act-of-requires
-act-of-requires c κs = search needs
+asked-of-requires : tie.Need-asked-of-requires
+asked-of-requires c κs = search needs
 
 finish-requires : tie.Need-finish-requires
 finish-requires c κs = (c .before .before .before .before .before .before .before .before .before .before .before .before .before .before .before .before .before .before .before .before .pre .0, rw (c .before .before .before .before .o2 .given .1) at (c .before .before .before .before .before .before .take-all .ensures .1))
@@ -87,7 +87,7 @@ returns-4 c =
     let fetched = mode .before .before .before .before .fetch .ensures in
     let a = mode .before .before .before .before .before .before .before .before .args in
     c .before .before .finish .ensures
-    ∙ rw (c .before .before .before .before .before .act-of .ensures)
+    ∙ rw (c .before .before .before .before .before .asked-of .ensures)
     (exec-asked (a .status) (a .base) (a .entries) (a .regs .now) (a .mem .now) _ (rw byte at (fetched .0)) (rw byte at (fetched .1)) (sym (mode .forbidden .ensures) ∙ c .before .before .before .before .before .before .before .before .before .before .before .before .before .before .if1 .left) _
     (rw (c .before .before .before .before .before .before .before .o2 .given .1, c .before .before .before .before .before .before .before .before .before .before .rules-of .ensures .0, c .before .before .before .before .before .before .before .before .before .before .before .before .before .plus .ensures) at (c .before .before .before .before .before .before .before .before .before .take-all .ensures .0)))
 
@@ -108,7 +108,7 @@ exec-spec =
     take-all-requires
     enum-known-o
     enum-known-o-2
-    act-of-requires
+    asked-of-requires
     finish-requires
     same-length-2
     returns-2

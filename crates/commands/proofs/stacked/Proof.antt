@@ -1,4 +1,4 @@
--- `stacked` is right: the bytes that are laid are those of the words that have passed.
+-- `stacked` is right: after i turns the first 4 × i bytes are those of the first i words.
 use Prim.Native.Nat.{_≤_, _-_, _*_}
 use mathlib.Core.Path.{_≡_, refl, sym, _∙_}
 use mathlib.Core.List.{[], _∷_, _++_}

@@ -1,4 +1,4 @@
--- The status tells the mode.
+-- `alarm` is right: the status tells the mode.
 use borrow.Author.Tests.{lt-ltb, le-ltb}
 use borrow.Author.Needs.{needs}
 use Rattle.mi.specs.Steps.{stop}

@@ -1,4 +1,4 @@
--- Each test is one of the definition, tried in its order: the first that fails answers, and none means accepted.
+-- `block_refusal` is right: each test is one of the definition, tried in its order: the first that fails answers, and none means accepted.
 use borrow.Author.Needs.{needs}
 use Rattle.mi.specs.Calls.{firstRefused, freshRefusal}
 use Rattle.desk.proofs.Tests.{fails, holds}

@@ -1,8 +1,8 @@
--- Each way to end has its call.
+-- `conclude` is right: each way to end is one case of the definition.
 use borrow.Author.Needs.{needs}
 use Rattle.mi.specs.Steps.{halt}
 use Rattle.mi.specs.Map.{commit}
-use Rattle.desk.specs.Replies.{endedBy}
+use Rattle.desk.specs.Replies.{concludedEnd}
 use Rattle.desk.proofs.Ending.{resume-quiet}
 use Rattle.desk.proofs.conclude.Statement.{statement}
 use Rattle.desk.proofs.conclude.Tie as tie
@@ -41,32 +41,32 @@ alarm-requires : tie.Need-alarm-requires
 alarm-requires c κs = search needs
 
 returns : tie.Need-returns
-unfolding endedBy
+unfolding concludedEnd
 returns c = simp (c .before .before .out .given .1, c .done .ensures)
 
 same-length : tie.Need-same-length
 same-length c = search needs
 
 returns-2 : tie.Need-returns-2
-unfolding endedBy
+unfolding concludedEnd
 returns-2 c = rw (c .before .before .before .before .before .out2 .given .1) (c .before .before .enter .ensures)
 
 returns-3 : tie.Need-returns-3
-unfolding endedBy halt commit
+unfolding concludedEnd halt commit
 returns-3 c = simp (c .before .enum-told .given .1, c .with .ensures)
 
 same-length-2 : tie.Need-same-length-2
 same-length-2 c = search needs
 
 returns-4 : tie.Need-returns-4
-unfolding endedBy
+unfolding concludedEnd
 returns-4 c = rw (c .before .before .before .before .out3 .given .1, resume-quiet, ← c .before .real .ensures, c .resume .ensures)
 
 same-length-3 : tie.Need-same-length-3
 same-length-3 c = search needs
 
 returns-5 : tie.Need-returns-5
-unfolding endedBy
+unfolding concludedEnd
 returns-5 c = rw (c .before .before .before .before .before .out4 .given .1) (c .before .before .alarm .ensures)
 
 pub conclude-spec : {M : Type 1} → statement M

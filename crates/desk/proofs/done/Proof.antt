@@ -1,4 +1,4 @@
--- The pending set and the mark are the desk's own.
+-- `done` is right: the pending set and the mark are the desk's own.
 use borrow.Author.Needs.{needs}
 use Rattle.desk.proofs.done.Statement.{statement}
 use Rattle.desk.proofs.done.Tie as tie

@@ -1,4 +1,4 @@
--- The system block names the new R15 and status; where that status is valid the registers are saved, and nothing changes where it is not.
+-- `enter` is right: the system block names the new R15 and status; where that status is valid the registers are saved, and nothing changes where it is not.
 use borrow.Author.Needs.{needs}
 use Rattle.mi.specs.Steps.{stop, enterIf, concluded}
 use Rattle.mi.specs.Map.{commit}

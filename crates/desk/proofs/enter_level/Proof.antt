@@ -1,4 +1,4 @@
--- The level is entered with what is left of the pending set.
+-- `enter_level` is right: the level is entered with what is left of the pending set.
 use borrow.Author.Needs.{needs}
 use Rattle.desk.proofs.enter_level.Statement.{statement}
 use Rattle.desk.proofs.enter_level.Tie as tie

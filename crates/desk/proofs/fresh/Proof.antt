@@ -1,4 +1,4 @@
--- The blocks' answer decides: with a refusal the all-zero desk, else the fresh one.
+-- `fresh` is right: the blocks' answer decides: with a refusal the all-zero desk, else the fresh one.
 use borrow.Author.Needs.{needs}
 use Rattle.mi.specs.Calls.{freshReply, freshDesk, freshOf}
 use Rattle.desk.proofs.fresh.Statement.{statement}

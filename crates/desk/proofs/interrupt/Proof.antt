@@ -1,4 +1,4 @@
--- With nothing pending no level is due; in kernel mode none is entered.
+-- `interrupt` is right: with nothing pending no level is due; in kernel mode none is entered.
 use mathlib.Core.Path.{sym}
 use borrow.Author.Tests.{lt-ltb, le-ltb}
 use borrow.Author.Needs.{needs}

@@ -1,4 +1,4 @@
--- The flag of the first two tests is their conjunction, by which way it came; the third joins it.
+-- `length_allowed` is right: its three tests, joined, are the definition's.
 use Prim.Native.Nat.{_%_}
 use mathlib.Core.Path.{_≡_}
 use mathlib.Core.Bool.{_&&_}

@@ -1,4 +1,4 @@
--- A level that is due is entered; with none due the command's end is concluded.
+-- `one_step` is right: A level that is due is entered; with none due the command's end is concluded.
 use mathlib.Core.Path.{_≡_, refl}
 use native.Mathlib.Omega.{arith}
 use borrow.Author.Needs.{needs}
@@ -6,9 +6,9 @@ use Rattle.mi.specs.Steps.{oneStep}
 use Rattle.mi.specs.Calls.{Stepped}
 use Rattle.mi.proofs.Accepted.{passes}
 use Rattle.commands.specs.Ends.{outAs}
-use Rattle.desk.specs.Replies.{shown, endedBy, interruptOf}
+use Rattle.desk.specs.Replies.{shown, concludedEnd, interruptOf}
 use Rattle.desk.proofs.Ending.{step-enters, level-pending, command-step}
-use Rattle.desk.proofs.Turns.{blocks, map-fits}
+use Rattle.desk.proofs.Runs.{blocks, map-fits}
 use Rattle.desk.proofs.one_step.Statement.{statement}
 use Rattle.desk.proofs.one_step.Tie as tie
 
@@ -51,7 +51,7 @@ conclude-requires c κs =
 
 -- no level is due, so the command's end is the step
 ended : (c : tie.After-exec) (s : Stepped) → let a = c .before .before .before .before .before .before .before .before .before .before .args in
-    s ≡ endedBy (a .d) (c .exec .last .0) (outAs (c .exec .result) (c .exec .last .1 .0) (c .exec .last .0)) → s ≡ shown (oneStep (a .d) (a .mem .now)) (a .mem .now)
+    s ≡ concludedEnd (a .d) (c .exec .last .0) (outAs (c .exec .result) (c .exec .last .1 .0) (c .exec .last .0)) → s ≡ shown (oneStep (a .d) (a .mem .now)) (a .mem .now)
 ended c s =
     let i = c .before .before .before .before .before .before .before .before in
     let a = i .before .before .args in
@@ -62,7 +62,7 @@ same-length-2 : tie.Need-same-length-2
 same-length-2 c = search needs
 
 returns-2 : tie.Need-returns-2
-unfolding endedBy
+unfolding concludedEnd
 returns-2 c = ended (c .before .before .before .before .before .before) _ (rw (c .before .before .out .given .1, c .done .ensures))
 
 same-length-3 : tie.Need-same-length-3

@@ -1,8 +1,8 @@
--- The blocks' answer comes first; where it accepts, the tests of numbers 4, 5 and 7 follow in the definition's order.
+-- `refusal` is right: the blocks' answer comes first; where it accepts, the tests of numbers 4, 5 and 7 follow in the definition's order.
 use mathlib.Core.Path.{_≡_, sym, _∙_}
 use borrow.Author.Needs.{needs}
 use Rattle.mi.specs.Calls.{firstRefused, stepRefusal, passes5}
-use Rattle.mi.proofs.Refusals.{orElse, laterAnswer, step-parts}
+use Rattle.mi.proofs.Refusals.{orElse, laterRefusal, step-parts}
 use Rattle.desk.proofs.Tests.{fails, holds}
 use Rattle.desk.proofs.refusal.Statement.{statement}
 use Rattle.desk.proofs.refusal.Tie as tie
@@ -26,19 +26,19 @@ block-fits-requires : tie.Need-block-fits-requires
 block-fits-requires c κs = search needs
 
 later : (c : tie.After-enum-told) → stepRefusal (c .before .before .before .before .before .args .d) (c .before .before .before .before .before .args .n)
-    ≡ laterAnswer (c .before .before .before .before .before .args .d) (c .before .before .before .before .before .args .n)
+    ≡ laterRefusal (c .before .before .before .before .before .args .d) (c .before .before .before .before .before .args .n)
 unfolding orElse
 later c = step-parts _ _ ∙ simp (← c .before .before .block-refusal .ensures, c .enum-told .given .1)
 
 returns : tie.Need-returns
-unfolding laterAnswer firstRefused
+unfolding laterRefusal firstRefused
 returns c = rw (later (c .before .before .before .before)) (simp (fails (c .before .block-fits .ensures) (c .if1 .taken)))
 
 state-valid-requires : tie.Need-state-valid-requires
 state-valid-requires c κs = search needs
 
 returns-2 : tie.Need-returns-2
-unfolding laterAnswer firstRefused passes5
+unfolding laterRefusal firstRefused passes5
 returns-2 c =
     let b = c .before .before in
     rw (later (b .before .before .before .before)) (simp (holds (b .before .block-fits .ensures) (b .if1 .left), fails (c .before .state-valid .ensures) (c .if2 .taken)))
@@ -54,14 +54,14 @@ unfolding orElse
 returns-3 c = sym (step-parts _ _ ∙ simp (← c .before .before .before .block-refusal .ensures, c .before .blocks2 .given .1))
 
 returns-4 : tie.Need-returns-4
-unfolding laterAnswer firstRefused passes5
+unfolding laterRefusal firstRefused passes5
 returns-4 c =
     let b = c .before .before in
     let a = b .before .before in
     rw (later (a .before .before .before .before)) (simp (holds (a .before .block-fits .ensures) (a .if1 .left), holds (b .before .state-valid .ensures) (b .if2 .left), c .enum-told2 .given .1))
 
 returns-5 : tie.Need-returns-5
-unfolding laterAnswer firstRefused passes5
+unfolding laterRefusal firstRefused passes5
 returns-5 c =
     let b = c .before .before in
     let a = b .before .before in

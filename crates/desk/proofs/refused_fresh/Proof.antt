@@ -1,4 +1,4 @@
--- The desk is all zero, and its mark has the number of the refusal.
+-- `refused_fresh` is right: the desk is all zero, and its mark has the number of the refusal.
 use borrow.Author.Needs.{needs}
 use Rattle.mi.specs.Calls.{zeroDesk}
 use Rattle.desk.proofs.refused_fresh.Statement.{statement}

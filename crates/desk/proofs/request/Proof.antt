@@ -1,7 +1,7 @@
--- The tests are those of the definition, in its order; a refusal hands the desk back, and only the pending set changes otherwise.
+-- `request` is right: the tests are those of the definition, in its order; a refusal hands the desk back, and only the pending set changes otherwise.
 use borrow.Author.Tests.{lt-leb, le-leb}
 use borrow.Author.Needs.{needs}
-use Rattle.mi.specs.Calls.{firstRefused, passes5, passes6, unchanged, unlessRefused, requestRefusal, requestOf, requestedOf}
+use Rattle.mi.specs.Calls.{firstRefused, passes5, passes6, unchanged, unlessRefused, requestRefusal, requestOutcome, requestOf}
 use Rattle.desk.proofs.Tests.{fails, holds}
 use Rattle.desk.proofs.request.Statement.{statement}
 use Rattle.desk.proofs.request.Tie as tie
@@ -10,22 +10,22 @@ state-valid-requires : tie.Need-state-valid-requires
 state-valid-requires c κs = search needs
 
 returns : tie.Need-returns
-unfolding requestedOf requestOf requestRefusal unlessRefused unchanged firstRefused passes5 passes6
+unfolding requestOf requestOutcome requestRefusal unlessRefused unchanged firstRefused passes5 passes6
 returns c = simp (fails (c .before .state-valid .ensures) (c .if1 .taken))
 
 returns-2 : tie.Need-returns-2
-unfolding requestedOf requestOf requestRefusal unlessRefused unchanged firstRefused passes5 passes6
+unfolding requestOf requestOutcome requestRefusal unlessRefused unchanged firstRefused passes5 passes6
 returns-2 c = simp (holds (c .before .before .state-valid .ensures) (c .before .if1 .left), lt-leb _ _ (c .if2 .taken))
 
 returns-3 : tie.Need-returns-3
-unfolding requestedOf requestOf requestRefusal unlessRefused unchanged firstRefused passes5 passes6
+unfolding requestOf requestOutcome requestRefusal unlessRefused unchanged firstRefused passes5 passes6
 returns-3 c = simp (holds (c .before .before .before .state-valid .ensures) (c .before .before .if1 .left), le-leb _ _ (c .before .if2 .left), lt-leb _ _ (c .if3 .taken))
 
 with-level-requires : tie.Need-with-level-requires
 with-level-requires c κs = search needs
 
 returns-4 : tie.Need-returns-4
-unfolding requestedOf requestOf requestRefusal unlessRefused unchanged firstRefused passes5 passes6
+unfolding requestOf requestOutcome requestRefusal unlessRefused unchanged firstRefused passes5 passes6
 returns-4 c =
     let b = c .before .before .before in
     simp (holds (b .before .state-valid .ensures) (b .if1 .left), le-leb _ _ (c .before .before .if2 .left), le-leb _ _ (c .before .if3 .left), c .with-level .ensures)

@@ -1,4 +1,4 @@
--- The tests are those of the definition, and each that fails stops with 14; else the block is loaded.
+-- `resume` is right: the tests are those of the definition, and each that fails stops with 14; else the block is loaded.
 use Prim.Native.Nat.{_+_, _≤_}
 use mathlib.Core.Path.{_≡_}
 use mathlib.Core.Bool.{true}

@@ -1,4 +1,4 @@
--- The first test is the status, the second the bit of level 0.
+-- `state_valid` is right: the first test is the status, the second the bit of level 0.
 use native.Mathlib.Nat.{div-one}
 use borrow.Author.Needs.{needs}
 use Rattle.mi.specs.State.{isPending}

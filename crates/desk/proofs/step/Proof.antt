@@ -1,7 +1,7 @@
--- The refusals decide, and then the step is made.
+-- `step` is right: the refusals decide, and then the step is made.
 use mathlib.Core.Path.{sym, _∙_}
 use borrow.Author.Needs.{needs}
-use Rattle.desk.proofs.Turns.{refused-step, accepted-step}
+use Rattle.desk.proofs.Runs.{refused-step, accepted-step}
 use Rattle.desk.proofs.step.Statement.{statement}
 use Rattle.desk.proofs.step.Tie as tie
 

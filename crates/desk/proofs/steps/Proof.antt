@@ -1,4 +1,4 @@
--- The invariant: the steps left from the present desk and memory come to what all of them come to from the first, and that desk is accepted.
+-- `steps` is right: the invariant: the steps left from the present desk and memory come to what all of them come to from the first, and that desk is accepted.
 use Prim.Native.Nat.{_+_, _-_, _≤_}
 use mathlib.Core.Path.{_≡_, refl, ap, _∙_}
 use mathlib.Core.Logic.{⊎-elim}
@@ -9,7 +9,7 @@ use Rattle.mi.specs.State.{isRunning}
 use Rattle.mi.specs.Calls.{stepsOf}
 use Rattle.desk.specs.Replies.{interruptOf}
 use Rattle.desk.proofs.Ending.{level-pending}
-use Rattle.desk.proofs.Turns.{blocks, map-fits, going, Midway, After, start, go-on, stopped, finished, after-level, after-command, after-quiet}
+use Rattle.desk.proofs.Runs.{blocks, map-fits, going, Midway, After, start, go-on, stopped, finished, after-level, after-command, after-quiet}
 use Rattle.desk.proofs.steps.Statement.{statement}
 use Rattle.desk.proofs.steps.Tie as tie
 

@@ -1,4 +1,4 @@
--- Only the mark changes.
+-- `stop` is right: only the mark changes.
 use borrow.Author.Needs.{needs}
 use Rattle.mi.specs.Steps.{stop}
 use Rattle.desk.proofs.stop.Statement.{statement}

@@ -1,4 +1,4 @@
--- The level is in the set, so its bit can be taken off.
+-- `without_level` is right: the level is in the set, so its bit can be taken off.
 use borrow.Author.Needs.{needs}
 use Rattle.mi.specs.State.{withoutLevel}
 use Rattle.desk.proofs.without_level.Statement.{statement}

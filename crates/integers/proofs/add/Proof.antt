@@ -1,4 +1,4 @@
--- `integers::add`: the sum by its last L bytes and its carry, and V where the sum of the biased numbers leaves the range. Assumes nothing.
+-- `add` is right: the sum by its last L bytes and its carry, and V where the sum of the biased numbers leaves the range.
 use borrow.Author.Needs.{needs}
 use Prim.Native.Nat.{_+_}
 use Rattle.mi.specs.Words.{lengthOf}

@@ -1,4 +1,4 @@
--- `integers::and_not` meets its contract: the second low end and the first's complement, joined bit by bit. Assumes nothing.
+-- `and_not` is right: the second low end and the first's complement, joined bit by bit.
 use borrow.Author.Needs.{needs}
 use Rattle.integers.proofs.and_not.Statement.{statement}
 use Rattle.integers.proofs.and_not.Tie as tie

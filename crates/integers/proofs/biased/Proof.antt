@@ -1,4 +1,4 @@
--- `integers::biased`: to turn the highest bit over is to add half the span. Assumes nothing.
+-- `biased` is right: to turn the highest bit over is to add half the span.
 use borrow.Author.Needs.{needs}
 use native.Mathlib.Omega.{arith}
 use Prim.Native.Nat.{_+_, _%_, _<_}

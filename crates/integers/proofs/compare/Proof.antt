@@ -1,4 +1,4 @@
--- `integers::compare`: biased numbers are in the order of the signed ones. Assumes nothing.
+-- `compare` is right: biased numbers are in the order of the signed ones.
 use borrow.Author.Needs.{needs}
 use Rattle.mi.specs.Words.{lengthOf}
 use Rattle.mi.proofs.Biased.{biased}

@@ -1,4 +1,4 @@
--- `integers::complement`: of 256 ^ L - 1 the last L bytes are taken away, as the definition says. Assumes nothing.
+-- `complement` is right: of 256 ^ L - 1 the last L bytes are taken away, as the definition says.
 use borrow.Author.Needs.{needs}
 use native.Mathlib.Omega.{arith}
 use Rattle.mi.specs.Integers.{complement}

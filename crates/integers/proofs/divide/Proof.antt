@@ -1,11 +1,11 @@
--- `integers::divide`: the quotient of the magnitudes with the sign of the quotient, and V where that does not fit. Assumes nothing.
+-- `divide` is right: the quotient of the magnitudes with the sign of the quotient, and V where that does not fit.
 use borrow.Author.Needs.{needs}
 use native.Mathlib.Omega.{arith}
 use native.Mathlib.Nat.{div-le-self}
 use Rattle.mi.specs.Words.{lengthOf}
-use Rattle.mi.proofs.Sizes.{size}
+use Rattle.mi.proofs.Magnitudes.{magnitude}
 use Rattle.integers.proofs.Sized.{some-bytes, span-word}
-use Rattle.integers.proofs.Outcomes.{divided-is, size-positive}
+use Rattle.integers.proofs.Outcomes.{divided-is, magnitude-positive}
 use Rattle.integers.proofs.divide.Statement.{statement}
 use Rattle.integers.proofs.divide.Tie as tie
 
@@ -31,11 +31,11 @@ magnitude-requires-2 : tie.Need-magnitude-requires-2
 magnitude-requires-2 c κs = search needs
 
 div-n : tie.Need-div-n
-unfolding size
+unfolding magnitude
 div-n c =
     let one = c .before .before .before .before .before .before in
     rw (c .magnitude2 .ensures .0)
-    (size-positive (lengthOf (one .before .args .size)) (one .low .result) (one .low .ensures .1) (rw (one .low .ensures .0) (one .before .pre)))
+    (magnitude-positive (lengthOf (one .before .args .size)) (one .low .result) (one .low .ensures .1) (rw (one .low .ensures .0) (one .before .pre)))
 
 with-sign-requires : tie.Need-with-sign-requires
 with-sign-requires c κs = omega (arith, div-le-self (c .before .magnitude .result) (c .magnitude2 .result))
@@ -52,7 +52,7 @@ result-requires : tie.Need-result-requires
 result-requires c κs = search needs
 
 returns : tie.Need-returns
-unfolding size
+unfolding magnitude
 returns c =
     let two = c .before .before .before .before .before .before .before .before in
     let one = two .before in

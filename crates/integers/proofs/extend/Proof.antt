@@ -1,10 +1,10 @@
--- `integers::extend`: a byte with its highest bit set stands for 256 less, and a word that does stands for 2 ^ 32 less. Assumes nothing.
+-- `extend` is right: a byte with its highest bit set stands for 256 less, and a word with its highest bit set for 2 ^ 32 less.
 use borrow.Author.Needs.{needs}
 use native.Mathlib.Omega.{arith}
 use Prim.Native.Nat.{_%_}
 use borrow.Author.Tests.{le-leb, lt-leb}
 use Rattle.mi.specs.Integers.{negative}
-use Rattle.mi.proofs.Sizes.{kept-extension}
+use Rattle.mi.proofs.Magnitudes.{kept-extension}
 use Rattle.integers.proofs.extend.Statement.{statement}
 use Rattle.integers.proofs.extend.Tie as tie
 

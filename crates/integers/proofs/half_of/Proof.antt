@@ -1,4 +1,4 @@
--- `integers::half_of`: 256 ^ L / 2 is computed for each size. Assumes nothing.
+-- `half_of` is right: 256 ^ L / 2 is computed for each size.
 use borrow.Author.Needs.{needs}
 use native.Mathlib.Omega.{arith}
 use Rattle.integers.proofs.half_of.Statement.{statement}

@@ -1,4 +1,4 @@
--- `integers::in_range`: of the two bounds, half the span, only the negative one is a number of the size. Assumes nothing.
+-- `in_range` is right: of the two bounds, half the span, only the negative one is a number of the size.
 use borrow.Author.Needs.{needs}
 use Rattle.integers.proofs.in_range.Statement.{statement}
 use Rattle.integers.proofs.in_range.Tie as tie

@@ -1,4 +1,4 @@
--- `integers::is_negative`: the highest bit is set where the number is at least half the span. Assumes nothing.
+-- `is_negative` is right: the highest bit is set where the number is at least half the span.
 use borrow.Author.Needs.{needs}
 use Rattle.mi.specs.Integers.{negative}
 use Rattle.integers.proofs.is_negative.Statement.{statement}

@@ -1,7 +1,7 @@
--- `integers::left`: 32 times or more to the left no bit is left. Assumes nothing.
+-- `left` is right: 32 times or more to the left no bit is left.
 use borrow.Author.Needs.{needs}
 use mathlib.Core.Path.{sym}
-use Rattle.mi.proofs.Sizes.{shift-left-all}
+use Rattle.mi.proofs.Magnitudes.{shift-left-all}
 use Rattle.integers.proofs.left.Statement.{statement}
 use Rattle.integers.proofs.left.Tie as tie
 

@@ -1,4 +1,4 @@
--- `integers::low`: the last L bytes are the residue by 256 ^ L, and a word is below 256 ^ 4 already. Assumes nothing.
+-- `low` is right: the last L bytes are the residue by 256 ^ L, and a word is below 256 ^ 4 already.
 use borrow.Author.Needs.{needs}
 use native.Mathlib.Omega.{arith}
 use Rattle.integers.proofs.low.Statement.{statement}

@@ -1,9 +1,9 @@
--- `integers::multiply`: the product by its last L bytes, and V by the product of the magnitudes. Assumes nothing.
+-- `multiply` is right: the product by its last L bytes, and V by the product of the magnitudes.
 use borrow.Author.Needs.{needs}
 use native.Mathlib.Omega.{arith}
 use Prim.Native.Nat.{_*_}
 use Rattle.mi.specs.Words.{lengthOf}
-use Rattle.mi.proofs.Sizes.{size}
+use Rattle.mi.proofs.Magnitudes.{magnitude}
 use Rattle.integers.proofs.Sized.{some-bytes, span-word, low-word, product-fits}
 use Rattle.integers.proofs.Outcomes.{multiplied-is}
 use Rattle.integers.proofs.multiply.Statement.{statement}
@@ -63,7 +63,7 @@ result-requires : tie.Need-result-requires
 result-requires c κs = search needs
 
 returns : tie.Need-returns
-unfolding size
+unfolding magnitude
 returns c =
     let two = c .before .before .before .before .before .before .before .before in
     let one = two .before in

@@ -1,4 +1,4 @@
--- `integers::or` meets its contract: the two low ends, joined bit by bit. Assumes nothing.
+-- `or` is right: the two low ends, joined bit by bit.
 use borrow.Author.Needs.{needs}
 use Rattle.integers.proofs.or.Statement.{statement}
 use Rattle.integers.proofs.or.Tie as tie

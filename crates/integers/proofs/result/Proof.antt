@@ -1,4 +1,4 @@
--- `integers::result`: N by comparison with half the span, Z by comparison with 0, V and C as they were given. Assumes nothing.
+-- `result` is right: N by comparison with half the span, Z by comparison with 0, V and C as they were given.
 use borrow.Author.Needs.{needs}
 use Rattle.mi.specs.Integers.{negative, resultOf}
 use Rattle.integers.proofs.result.Statement.{statement}

@@ -1,9 +1,9 @@
--- `integers::right`: 32 times or more to the right no bit is left. Assumes nothing.
+-- `right` is right: 32 times or more to the right no bit is left.
 use borrow.Author.Needs.{needs}
 use native.Mathlib.Omega.{arith}
 use mathlib.Core.Path.{refl, sym}
 use lib.Pow.{shr-le}
-use Rattle.mi.proofs.Sizes.{shift-right-all}
+use Rattle.mi.proofs.Magnitudes.{shift-right-all}
 use Rattle.integers.proofs.right.Statement.{statement}
 use Rattle.integers.proofs.right.Tie as tie
 

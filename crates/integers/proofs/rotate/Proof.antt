@@ -1,4 +1,4 @@
--- `integers::rotate`: the upper half of the word twice over, after n times to the left, is the word rotated. Assumes nothing.
+-- `rotate` is right: the upper half of the word twice over, after n times to the left, is the word rotated.
 use borrow.Author.Needs.{needs}
 use mathlib.Core.Path.{sym, _∙_}
 use Rattle.mi.proofs.Shifts.{rotated-is}

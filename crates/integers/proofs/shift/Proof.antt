@@ -1,4 +1,4 @@
--- `integers::shift`: a count below half the span is not negative, and any other is 2 ^ 32 less. Assumes nothing.
+-- `shift` is right: a count below half the span is not negative, and any other is 2 ^ 32 less.
 use borrow.Author.Needs.{needs}
 use native.Mathlib.Omega.{arith}
 use Prim.Native.Nat.{ℕ}

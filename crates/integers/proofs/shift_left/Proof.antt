@@ -1,4 +1,4 @@
--- `integers::shift_left`: the word by the definition, and V where the signs differ. Assumes nothing.
+-- `shift_left` is right: the word by the definition, and V where the signs differ.
 use borrow.Author.Needs.{needs}
 use Rattle.mi.specs.Integers.{shiftedLeft}
 use Rattle.integers.proofs.shift_left.Statement.{statement}

@@ -1,4 +1,4 @@
--- `integers::span_of`: 256 ^ L is computed for each size. Assumes nothing.
+-- `span_of` is right: 256 ^ L is computed for each size.
 use borrow.Author.Needs.{needs}
 use native.Mathlib.Omega.{arith}
 use Rattle.integers.proofs.span_of.Statement.{statement}

@@ -1,4 +1,4 @@
--- `integers::subtract`: the difference by its last L bytes and its borrow, and V where the difference of the biased numbers leaves the range. Assumes nothing.
+-- `subtract` is right: the difference by its last L bytes and its borrow, and V where the difference of the biased numbers leaves the range.
 use borrow.Author.Needs.{needs}
 use native.Mathlib.Omega.{arith}
 use Rattle.mi.specs.Words.{lengthOf}

@@ -1,4 +1,4 @@
--- `integers::xor` meets its contract: the two low ends, joined bit by bit. Assumes nothing.
+-- `xor` is right: the two low ends, joined bit by bit.
 use borrow.Author.Needs.{needs}
 use Rattle.integers.proofs.xor.Statement.{statement}
 use Rattle.integers.proofs.xor.Tie as tie

@@ -1,4 +1,4 @@
--- From 15 down, the level due among those from k down is the level due; at 0 there is none.
+-- `due` is right: while no level above k is due, the level due among k to 1 is the level due.
 use Prim.Native.Nat.{_≤_}
 use mathlib.Core.Logic.{⊎-elim}
 use mathlib.Core.Path.{_≡_, sym, _∙_}

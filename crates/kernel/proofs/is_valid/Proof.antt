@@ -1,4 +1,4 @@
--- A status word is valid where the bits between mode and level are 0, which is the test.
+-- `is_valid` is right: A status word is valid where the bits between mode and level are 0, which is the test.
 use mathlib.Core.Path.{refl}
 use Rattle.mi.specs.State.{validStatus}
 use Rattle.kernel.proofs.is_valid.Statement.{statement}

@@ -1,4 +1,4 @@
--- The first test tells the mode; in kernel mode the second decides.
+-- `is_valid_kernel` is right: the first test tells the mode; in kernel mode the second decides.
 use borrow.Author.Tests.{lt-ltb, le-ltb, lt-leb}
 use Rattle.mi.specs.State.{validStatus, validKernelStatus}
 use Rattle.kernel.proofs.is_valid_kernel.Statement.{statement}

@@ -1,4 +1,4 @@
--- The first i registers are the first i words; each turn adds the next of both.
+-- `load` is right: the first i registers are the first i words; each turn adds the next of both.
 use Prim.Native.Nat.{_≤_, _<_, _-_}
 use mathlib.Core.Path.{_≡_, refl, sym, _∙_}
 use native.Mathlib.Numerals.{add-one}

@@ -1,4 +1,4 @@
--- The four bytes of a word go, highest first, to four places that follow one another.
+-- `put_word` is right: the four bytes of a word go, highest first, to four places that follow one another.
 use mathlib.Core.Path.{sym}
 use native.Mathlib.Omega.{arith}
 use borrow.Author.Needs.{needs}

@@ -1,4 +1,4 @@
--- Before register i, what is left to write, on the memory as it is, gives what all of it gives on the first memory.
+-- `save` is right: before register i, what is left to write, on the memory as it is, gives what all of it gives on the first memory.
 use Prim.Native.Nat.{_≤_, _-_, _+_, _*_}
 use mathlib.Core.Path.{_≡_, refl, sym, _∙_}
 use mathlib.Core.List.{[], _∷_, _++_}

@@ -1,4 +1,4 @@
--- `address` is right: a word is below 2^32. Assumes nothing.
+-- `address` is right: a word is below 2^32.
 use native.Mathlib.Nat.{mod-eq-of-lt}
 use Rattle.operands.proofs.address.Statement.{statement}
 use Rattle.operands.proofs.address.Tie as tie

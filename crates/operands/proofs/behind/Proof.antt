@@ -1,4 +1,4 @@
--- `behind` is right: each arm is one case of the definition, for any registers. Assumes nothing.
+-- `behind` is right: each arm is one case of the definition, for any registers.
 use borrow.Author.Needs.{needs}
 use Rattle.operands.proofs.behind.Statement.{statement}
 use Rattle.operands.proofs.behind.Tie as tie

@@ -1,4 +1,4 @@
--- `by_form` is right: each arm is one form, with its rule first; one wrap of an address serves for the wraps of its parts. Assumes nothing.
+-- `by_form` is right: each arm is one form, with its rule first; one wrap of an address serves for the wraps of its parts.
 use mathlib.Core.Logic.{⊎-elim}
 use native.Mathlib.Nat.{add-zero, mod-mod, mod-add-mod, add-mod-mod}
 use borrow.Author.Tests.{eq-eqb, ne-eqb, lt-leb}

@@ -1,4 +1,4 @@
--- `can_step` is right: its tests are the definition's. Assumes nothing.
+-- `can_step` is right: its tests are the definition's.
 use mathlib.Core.Path.{refl}
 use Rattle.operands.proofs.can_step.Statement.{statement}
 use Rattle.operands.proofs.can_step.Tie as tie

@@ -1,4 +1,4 @@
--- `chosen` is right: its test is the definition's. Assumes nothing.
+-- `chosen` is right: its test is the definition's.
 use borrow.Author.Tests.{eq-eqb, ne-eqb}
 use Rattle.operands.proofs.chosen.Statement.{statement}
 use Rattle.operands.proofs.chosen.Tie as tie

@@ -1,4 +1,4 @@
--- `operand` is right: the fields at R15, R15 moved past them, and then the form. Assumes nothing.
+-- `operand` is right: the fields at R15, R15 moved past them, and then the form.
 use native.Mathlib.Omega.{arith}
 use borrow.Author.Needs.{needs}
 use Rattle.mi.specs.Operands.{operandAt}

@@ -1,4 +1,4 @@
--- `scaled` is right: B, H and W are the factors 1, 2 and 4. Assumes nothing.
+-- `scaled` is right: B, H and W are the factors 1, 2 and 4.
 use native.Mathlib.Omega.{arith}
 use borrow.Author.Needs.{needs}
 use Rattle.operands.proofs.scaled.Statement.{statement}

@@ -1,4 +1,4 @@
--- `take` is right: each arm is one case of the definition. Assumes nothing.
+-- `take` is right: each arm is one case of the definition.
 use denote.Ref.{now}
 use borrow.Author.Needs.{needs}
 use Rattle.mi.specs.Words.{lengthOf}

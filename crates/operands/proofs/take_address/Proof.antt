@@ -1,4 +1,4 @@
--- `take_address` is right: each arm is one case of the definition. Assumes nothing.
+-- `take_address` is right: each arm is one case of the definition.
 use borrow.Author.Needs.{needs}
 use Rattle.mi.specs.Operands.{takenBy, addressIn}
 use Rattle.operands.proofs.take_address.Statement.{statement}

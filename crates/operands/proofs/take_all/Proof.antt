@@ -1,4 +1,4 @@
--- `take_all` is right. The loop's invariant: the operands that are left give what all of them give. The measure is the number that holds their rules. Assumes nothing.
+-- `take_all` is right. The loop's invariant: the operands that are left give what all of them give. The measure is the number that holds their rules.
 use native.Mathlib.Omega.{arith}
 use borrow.Author.Needs.{needs}
 use Rattle.mi.specs.Operands.{withTaken, operandsOf}

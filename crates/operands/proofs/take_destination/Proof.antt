@@ -1,4 +1,4 @@
--- `take_destination` is right: each arm is one case of the definition, and a register keeps the bound that it came with. Assumes nothing.
+-- `take_destination` is right: each arm is one case of the definition, and a register keeps the bound that it came with.
 use borrow.Author.Needs.{needs}
 use Rattle.mi.specs.Operands.{takenBy, targetIn}
 use Rattle.operands.proofs.take_destination.Statement.{statement}

@@ -1,4 +1,4 @@
--- `value` is right: each arm is one case of the definition. Assumes nothing.
+-- `value` is right: each arm is one case of the definition.
 use borrow.Author.Needs.{needs}
 use Rattle.mi.specs.Operands.{valueIn}
 use Rattle.operands.proofs.value.Statement.{statement}

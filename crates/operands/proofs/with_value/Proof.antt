@@ -1,4 +1,4 @@
--- `with_value` is right: each arm is one case of the definition. Assumes nothing.
+-- `with_value` is right: each arm is one case of the definition.
 use borrow.Author.Needs.{needs}
 use Rattle.operands.proofs.with_value.Statement.{statement}
 use Rattle.operands.proofs.with_value.Tie as tie

@@ -1,4 +1,4 @@
--- An accepted desk: what the calls of a step rely on, and one step of a run. Assumes nothing.
+-- An accepted desk: what the calls of a step rely on, and one step of a run.
 use Prim.Native.Nat.{ℕ, suc, _+_, _-_, _≤_, _<_}
 use mathlib.Core.Path.{_≡_, refl, sym, ap, subst, _∙_}
 use mathlib.Core.Bool.{true, false}
@@ -16,13 +16,13 @@ use Rattle.mi.specs.Words.{Memory}
 use Rattle.mi.specs.State.{Registers, isRunning, withoutLevel, deskWith}
 use Rattle.mi.specs.Map.{commit}
 use Rattle.mi.specs.Steps.{enters, oneStep}
-use Rattle.mi.specs.Calls.{Stepped, Ran, ran, unchanged, unlessRefused, stepRefusal, stepOf, steppedOf, stepsOf, runUnless, runOf}
+use Rattle.mi.specs.Calls.{Stepped, Ran, ran, unchanged, unlessRefused, stepRefusal, stepOutcome, stepOf, stepsOf, runUnless, runOf}
 use Rattle.mi.proofs.Accepted.{Passes, passes, block-inside, length-whole, length-small, runs, step-lasts, steps-more, steps-stopped, steps-done}
 use Rattle.access.specs.Answers.{Fits}
 use Rattle.commands.specs.declared.Out.{Out}
 use Rattle.commands.specs.declared.Out.the-variants as out
 use Rattle.commands.specs.Ends.{outAs, execOf}
-use Rattle.desk.specs.Replies.{stepped, shown, enteredBy, endedBy, interruptOf, Blocks}
+use Rattle.desk.specs.Replies.{stepped, shown, enteredBy, concludedEnd, interruptOf, Blocks}
 use Rattle.desk.proofs.Ending.{step-enters, command-step}
 
 -- ---- What the calls of a step rely on, in a memory of the same length
@@ -41,12 +41,12 @@ module _ (d : Desk) (m : Memory) (n : ℕ) (same : length m ≡ n) (p : Passes d
 -- ---- A step and a run that are refused, and those that are not
 
 module _ (d : Desk) (m : Memory) where
-  pub refused-step : (k : Refusal) → stepRefusal d (length m) ≡ Refused k → stepped (record { answer = stepAnswer.Refused k; desk = d }) m ≡ steppedOf d m
-  unfolding steppedOf stepOf unlessRefused unchanged commit
+  pub refused-step : (k : Refusal) → stepRefusal d (length m) ≡ Refused k → stepped (record { answer = stepAnswer.Refused k; desk = d }) m ≡ stepOf d m
+  unfolding stepOf stepOutcome unlessRefused unchanged commit
   refused-step k e = rw e
 
-  pub accepted-step : stepRefusal d (length m) ≡ Accepted → shown (oneStep d m) m ≡ steppedOf d m
-  unfolding steppedOf stepOf unlessRefused
+  pub accepted-step : stepRefusal d (length m) ≡ Accepted → shown (oneStep d m) m ≡ stepOf d m
+  unfolding stepOf stepOutcome unlessRefused
   accepted-step e = rw e
 
   pub refused-run : (n : ℕ) (k : Refusal) → stepRefusal d (length m) ≡ Refused k → ran (Refused k) 0 d m ≡ runOf n d m
@@ -116,14 +116,14 @@ module _ {n k size : ℕ} {goal : Ran} {d : Desk} {m : Memory} (b : Midway n k s
 
   module _ (o : Out) (w : Registers) (z : Memory) (none : interruptOf (d .status) (d .pending) ≡ 0) (e : outAs o w z ≡ execOf (d .status) (d .base) (d .entries) (d .registers) m) where
     -- a command and its conclusion
-    pub after-command : k < n → {x : Desk} → x ≡ d → (r : StepReply) (y : Memory) → length y ≡ length m → stepped r y ≡ endedBy x z (outAs o w z) → After n (k + 1) size goal (r .desk) y
+    pub after-command : k < n → {x : Desk} → x ≡ d → (r : StepReply) (y : Memory) → length y ≡ length m → stepped r y ≡ concludedEnd x z (outAs o w z) → After n (k + 1) size goal (r .desk) y
     after-command left whole r y long g = after left r y long (command-step d m o w z none e _ (rw whole at g))
 
     -- a command that ended quietly
     pub after-quiet : k < n → d .mark ≡ Running → (t : ℕ) → o ≡ out.Done t → length z ≡ length m → Midway n (k + 1) size goal (going d w t) z
-    unfolding endedBy
+    unfolding concludedEnd
     after-quiet left running t done long =
         let r : StepReply = record { answer = stepAnswer.Done; desk = going d w t } in
-        let ended : stepped r z ≡ endedBy d z (outAs o w z) = rw (done, running) in
+        let ended : stepped r z ≡ concludedEnd d z (outAs o w z) = rw (done, running) in
         let a = after left r z long (command-step d m o w z none e _ ended) in
         record { same = a .same; passes = a .lasts refl; steps = a .steps }

@@ -1,5 +1,4 @@
--- Signed numbers by sign and size, for L bytes and any L: product, quotient, extension, shifts and counts by unsigned arithmetic.
--- Assumes nothing.
+-- Signed numbers by sign and magnitude, for L bytes and any L: product, quotient, extension, shifts and counts by unsigned arithmetic.
 use Prim.Native.Nat.{ℕ, zero, suc, _+_, _-_, _*_, _/_, _%_, _^_, _≤_, _<_}
 use mathlib.Core.Path.{_≡_, refl, ap, _∙_}
 use mathlib.Core.Bool.{Bool, true, false, not, and-true}
@@ -7,15 +6,15 @@ use native.Mathlib.Nat.{mod-eq-of-lt, zero-div, div-zero, div-le-self, div-eq-of
 use native.Mathlib.Omega.{arith}
 use borrow.Author.Tests.{le-leb, lt-ltb}
 use lib.Dec.{ltb, leb}
-use lib.IntN.{ℤ, pos, negℤ, natAbs, _*ℤ_}
+use lib.IntN.{ℤ, pos, negℤ, _*ℤ_}
 use lib.Pow.{pow-add, pow-mono}
-use lib.Signed.{nonNeg, quotZ, shrZ}
+use lib.Signed.{quotZ, shrZ}
 use Rattle.mi.specs.Words.{pick, span}
 use Rattle.mi.specs.Integers.{half, negative, signed, fits, modulo, kept}
 use Rattle.mi.proofs.Differences.{leb-same, gap-pos, gap-shift, gap-same, gap-neg, gap-mul, gap-modulo}
 use Rattle.mi.proofs.Widths.{b0, span-positive, span-wider, half-twice, by-sign, signed-gap, signed-high, signed-low-is, signed-high-is, fits-gap, kept-gap}
 
--- ---- Sign and size
+-- ---- Sign and magnitude
 
 abbrev pub withSign : Bool → ℕ → ℤ
 withSign s n = pick s (negℤ (pos n)) (pos n)
@@ -23,19 +22,19 @@ withSign s n = pick s (negℤ (pos n)) (pos n)
 abbrev pub differ : Bool → Bool → Bool
 differ s t = pick s (not t) t
 
-unfoldable pub size : ℕ → ℕ → ℕ
-size L x = pick (negative L x) (span L - x) x
+unfoldable pub magnitude : ℕ → ℕ → ℕ
+magnitude L x = pick (negative L x) (span L - x) x
 
-pub signed-by-size : (L x : ℕ) → x < span L → signed L x ≡ withSign (negative L x) (size L x)
-unfolding size
-signed-by-size L x h =
+pub signed-by-magnitude : (L x : ℕ) → x < span L → signed L x ≡ withSign (negative L x) (magnitude L x)
+unfolding magnitude
+signed-by-magnitude L x h =
     by-sign L x (λ t. signed L x ≡ withSign t (pick t (span L - x) x))
     (λ q. gap-same (signed-high L x q) (gap-neg (gap-pos (span L - x))) (omega arith))
     (λ q. signed-low-is L x q)
 
-pub size-half : (L x : ℕ) → 1 ≤ L → x < span L → size L x ≤ half L
-unfolding size
-size-half L x l h =
+pub magnitude-half : (L x : ℕ) → 1 ≤ L → x < span L → magnitude L x ≤ half L
+unfolding magnitude
+magnitude-half L x l h =
     by-sign L x (λ t. pick t (span L - x) x ≤ half L) (λ q. omega (arith, half-twice L l)) (λ q. omega arith)
 
 pub withSign-mul : (s t : Bool) (m n : ℕ) → withSign s m *ℤ withSign t n ≡ withSign (differ s t) (m * n)
@@ -70,27 +69,27 @@ withSign-kept L false n h = kept-gap L n 0 0 (gap-shift (n + 0 * span L) (0 * sp
 -- ---- Product and quotient
 
 module _ (L a b : ℕ) (fa : a < span L) (fb : b < span L) where
-  pub product-by-size : signed L b *ℤ signed L a ≡ withSign (differ (negative L b) (negative L a)) (size L b * size L a)
-  product-by-size = rw (signed-by-size L b fb, signed-by-size L a fa) (withSign-mul (negative L b) (negative L a) (size L b) (size L a))
+  pub product-by-magnitude : signed L b *ℤ signed L a ≡ withSign (differ (negative L b) (negative L a)) (magnitude L b * magnitude L a)
+  product-by-magnitude = rw (signed-by-magnitude L b fb, signed-by-magnitude L a fa) (withSign-mul (negative L b) (negative L a) (magnitude L b) (magnitude L a))
 
-  pub quotient-by-size : quotZ (signed L b) (signed L a) ≡ withSign (differ (negative L b) (negative L a)) (size L b / size L a)
-  quotient-by-size = rw (signed-by-size L b fb, signed-by-size L a fa) (withSign-quot (negative L b) (negative L a) (size L b) (size L a))
+  pub quotient-by-magnitude : quotZ (signed L b) (signed L a) ≡ withSign (differ (negative L b) (negative L a)) (magnitude L b / magnitude L a)
+  quotient-by-magnitude = rw (signed-by-magnitude L b fb, signed-by-magnitude L a fa) (withSign-quot (negative L b) (negative L a) (magnitude L b) (magnitude L a))
 
 module _ (L a b : ℕ) (wide : 1 ≤ L) (fa : a < span L) (fb : b < span L) where
   pub product-fits : fits L (signed L b *ℤ signed L a)
-      ≡ pick (differ (negative L b) (negative L a)) (leb (size L b * size L a) (half L)) (ltb (size L b * size L a) (half L))
-  product-fits = rw (product-by-size L a b fa fb) (withSign-fits L (differ (negative L b) (negative L a)) (size L b * size L a) wide)
+      ≡ pick (differ (negative L b) (negative L a)) (leb (magnitude L b * magnitude L a) (half L)) (ltb (magnitude L b * magnitude L a) (half L))
+  product-fits = rw (product-by-magnitude L a b fa fb) (withSign-fits L (differ (negative L b) (negative L a)) (magnitude L b * magnitude L a) wide)
 
-  pub quotient-fits-by-size : fits L (quotZ (signed L b) (signed L a))
-      ≡ pick (differ (negative L b) (negative L a)) (leb (size L b / size L a) (half L)) (ltb (size L b / size L a) (half L))
-  quotient-fits-by-size = rw (quotient-by-size L a b fa fb) (withSign-fits L (differ (negative L b) (negative L a)) (size L b / size L a) wide)
+  pub quotient-fits-by-magnitude : fits L (quotZ (signed L b) (signed L a))
+      ≡ pick (differ (negative L b) (negative L a)) (leb (magnitude L b / magnitude L a) (half L)) (ltb (magnitude L b / magnitude L a) (half L))
+  quotient-fits-by-magnitude = rw (quotient-by-magnitude L a b fa fb) (withSign-fits L (differ (negative L b) (negative L a)) (magnitude L b / magnitude L a) wide)
 
   pub kept-quotient : kept L (quotZ (signed L b) (signed L a))
-      ≡ pick (differ (negative L b) (negative L a)) (span L - size L b / size L a) (size L b / size L a) % span L
+      ≡ pick (differ (negative L b) (negative L a)) (span L - magnitude L b / magnitude L a) (magnitude L b / magnitude L a) % span L
   kept-quotient =
-      rw (quotient-by-size L a b fa fb)
-      (withSign-kept L (differ (negative L b) (negative L a)) (size L b / size L a)
-      (omega (arith, half-twice L wide, size-half L b wide fb, div-le-self (size L b) (size L a))))
+      rw (quotient-by-magnitude L a b fa fb)
+      (withSign-kept L (differ (negative L b) (negative L a)) (magnitude L b / magnitude L a)
+      (omega (arith, half-twice L wide, magnitude-half L b wide fb, div-le-self (magnitude L b) (magnitude L a))))
 
 -- ---- Extension, shift to the right, counts
 
@@ -115,17 +114,6 @@ module _ (L x : ℕ) (fx : x < span L) where
       (λ q.
       let small : x / d < span L = omega (arith, div-le-self x d) in
       rw (signed-low-is L x q) (mod-eq-of-lt small))
-
-  pub nonNeg-signed : nonNeg (signed L x) ≡ not (negative L x)
-  nonNeg-signed =
-      by-sign L x (λ t. nonNeg (signed L x) ≡ not t) (λ q. rw (signed-high-is L x q fx)) (λ q. rw (signed-low-is L x q))
-
-  pub natAbs-signed : natAbs (signed L x) ≡ size L x
-  unfolding size
-  natAbs-signed =
-      by-sign L x (λ t. natAbs (signed L x) ≡ pick t (span L - x) x)
-      (λ q. rw (signed-high-is L x q fx) (omega arith))
-      (λ q. rw (signed-low-is L x q))
 
 -- a residue by a divisor of the span needs no sign: ROT's count is L = 4, d = 32
 pub modulo-signed : (L x c d : ℕ) → 0 < d → span L ≡ c * d → modulo d (signed L x) ≡ x % d

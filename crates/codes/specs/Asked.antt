@@ -1,5 +1,5 @@
 -- What a command byte asks for, once its operands are taken: the operation stage of `mi`'s commands, as one function of the byte, the flags and the two
--- numbers. Assumes nothing.
+-- numbers.
 use Prim.Native.Nat.{ℕ}
 use mathlib.Core.Option.{Option, none, some}
 use Rattle.mi.specs.declared.Size.{Size}
@@ -9,14 +9,14 @@ use Rattle.mi.specs.Alarms.{OrAlarm, got, alarm}
 use Rattle.mi.specs.Code.{Common, result, CMP, PUSHR, POPR, jump, CALL, RET, systemCall, HALT, RESUME, Command, common, userOnly, kernelOnly, Known, known}
 use Rattle.mi.specs.Integers.{natural, operate, compared}
 use Rattle.mi.specs.Commands.{jumps}
-use Rattle.codes.specs.declared.Act.{Act}
-use Rattle.codes.specs.declared.Act.the-variants as act
+use Rattle.codes.specs.declared.Asked.{Asked}
+use Rattle.codes.specs.declared.Asked.the-variants as act
 
-abbrev pub given : Size → OrAlarm Result → Act
+abbrev pub given : Size → OrAlarm Result → Asked
 given s (got x) = act.Give s x
 given s (alarm n a) = act.Alarm n a
 
-abbrev pub commonAct : Common → ℕ → ℕ → ℕ → Act
+abbrev pub commonAct : Common → ℕ → ℕ → ℕ → Asked
 commonAct (result op s) f x y = given s (operate op (lengthOf s) (natural (lengthOf s) x) (natural (lengthOf s) y))
 commonAct (CMP s) f x y = act.Flags (compared (lengthOf s) (natural (lengthOf s) x) (natural (lengthOf s) y))
 commonAct PUSHR f x y = act.Push
@@ -25,16 +25,16 @@ commonAct (jump c) f x y = act.Jump (jumps c f)
 commonAct CALL f x y = act.Call
 commonAct RET f x y = act.Return
 
-abbrev pub commandAct : Command → ℕ → ℕ → ℕ → Act
+abbrev pub commandAct : Command → ℕ → ℕ → ℕ → Asked
 commandAct (common c) f x y = commonAct c f x y
 commandAct (userOnly systemCall) f x y = act.System
 commandAct (kernelOnly HALT) f x y = act.Halt
 commandAct (kernelOnly RESUME) f x y = act.Resume
 
-abbrev pub knownAct : Option Known → ℕ → ℕ → ℕ → ℕ → Act
+abbrev pub knownAct : Option Known → ℕ → ℕ → ℕ → ℕ → Asked
 knownAct none b f x y = act.Alarm 12 b
 knownAct (some k) b f x y = commandAct (k .command) f x y
 
 -- by the byte b, the flags f and the numbers x and y of the first two operands
-unfoldable pub actOf : ℕ → ℕ → ℕ → ℕ → Act
-actOf b f x y = knownAct (known b) b f x y
+unfoldable pub askedOf : ℕ → ℕ → ℕ → ℕ → Asked
+askedOf b f x y = knownAct (known b) b f x y
