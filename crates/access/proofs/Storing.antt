@@ -39,14 +39,6 @@ module _ (m : Memory) (a v : ℕ) where
   unfolding commit realWritesFrom
   two-bytes-stored = rw (two-bytes, add-one)
 
-  pub four-bytes-stored : set (set (set (set m a (v / 16777216 % 256)) (a + 1) (v / 65536 % 256)) (a + 2) (v / 256 % 256)) (a + 3) (v % 256) ≡ commit (realWritesFrom a (bytesOf 4 v)) m
-  unfolding commit realWritesFrom
-  four-bytes-stored =
-      let second : a + 1 ≡ suc a = omega arith in
-      let third : a + 2 ≡ suc (suc a) = omega arith in
-      let fourth : a + 3 ≡ suc (suc (suc a)) = omega arith in
-      rw (four-bytes, second, third, fourth)
-
 -- ---- Lookups
 
 -- the writes of n bytes from the i-th on, each to its place

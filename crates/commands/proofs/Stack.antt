@@ -1,22 +1,20 @@
 -- POPR turn by turn, and what PUSHR writes as one row of words.
-use Prim.Native.Nat.{ℕ, zero, suc, _+_, _-_, _*_, _/_, _%_, _<_, _≤_}
+use Prim.Native.Nat.{ℕ, zero, suc, _+_, _-_, _*_, _<_, _≤_}
 use mathlib.Core.Path.{_≡_, refl, ap, _∙_}
 use mathlib.Core.List.{List, [], _∷_, _++_, append-assoc, append-nil}
 use native.Mathlib.Nat.{add-zero, zero-add}
 use native.Mathlib.Numerals.{add-one}
 use native.Mathlib.Omega.{arith}
 use borrow.Author.Tests.{eq-eqb, ne-eqb}
-use lib.ListN.{length, getD, set, take, drop, length-append, length-take, List·getD-append}
-use lib.Seq.{take-all, take-suc, take-at, sets-eq, getD-append-add}
+use lib.ListN.{length, getD, set, take, length-append, List·getD-append}
+use lib.Seq.{take-all, getD-append-add}
 use Rattle.mi.specs.declared.Access.the-variants.{Read}
 use Rattle.mi.specs.Words.{bytesOf, bytesOfWords, wrap, raised, lowered}
 use Rattle.mi.specs.State.{Registers, reg, registersFrom}
 use Rattle.mi.specs.Alarms.{got, alarm}
 use Rattle.mi.specs.Map.{View, VirtualWrites, readBytes, writesFrom}
 use Rattle.mi.specs.Commands.{pushed, popped}
-use Rattle.mi.proofs.Bytes.{bytes-length}
-use Rattle.mi.proofs.Blocks.{commit-word}
-use Rattle.mi.proofs.Writes.{commit-from}
+use Rattle.mi.proofs.Blocks.{words-append, one-word, words-length, registers-length}
 use Rattle.commands.proofs.Laws.{read-virtual}
 
 -- ---- POPR
@@ -35,26 +33,7 @@ module _ (v : View) (n i : ℕ) (r : Registers) where
   unfolding popped
   popped-all h = let p : n - i ≡ 0 = omega arith in rw p
 
--- ---- Words
-
-words-append : (xs ys : List ℕ) → bytesOfWords (xs ++ ys) ≡ bytesOfWords xs ++ bytesOfWords ys
-unfolding bytesOfWords
-words-append [] ys = refl
-words-append (x ∷ xs) ys = rw (words-append xs ys, append-assoc)
-
-one-word : (w : ℕ) → bytesOfWords (w ∷ []) ≡ bytesOf 4 w
-unfolding bytesOfWords
-one-word w = append-nil (bytesOf 4 w)
-
-words-length : (ws : List ℕ) → length (bytesOfWords ws) ≡ 4 * length ws
-unfolding bytesOfWords
-words-length [] = refl
-words-length (w ∷ ws) = rw (length-append, bytes-length 4 w, words-length ws) (omega arith)
-
-registers-length : (k i : ℕ) (r : Registers) → length (registersFrom k i r) ≡ k
-unfolding registersFrom
-registers-length zero i r = refl
-registers-length (suc k) i r = ap suc (registers-length k (suc i) r)
+-- ---- Registers
 
 -- one register more, the last
 registers-last : (k i : ℕ) (r : Registers) → registersFrom (suc k) i r ≡ registersFrom k i r ++ reg r (i + k) ∷ []
@@ -122,16 +101,6 @@ pushed-all sp r f =
     ∙ rw (low, append-nil, word-after (registersFrom 14 0 r) (lowered sp 4) (lowered sp 60) (lowered sp 4) (rw (registers-length 14 0 r) (up-again sp 56 (omega arith))))
 
 -- ---- The row of bytes
-
--- a word that is laid into a row after others
-pub word-laid : (bytes words : List ℕ) (i w : ℕ) → 4 * i + 4 ≤ length bytes → i < length words → getD words i 0 ≡ w → take (4 * i) bytes ≡ bytesOfWords (take i words)
-    → take (4 * (i + 1)) (set (set (set (set bytes (4 * i) (w / 16777216 % 256)) (4 * i + 1) (w / 65536 % 256)) (4 * i + 2) (w / 256 % 256)) (4 * i + 3) (w % 256))
-    ≡ bytesOfWords (take (i + 1) words)
-word-laid bytes words i w h l e t =
-    let four : 4 * (i + 1) ≡ 4 * i + 4 = omega arith in
-    let room : 4 * i + length (bytesOf 4 w) ≤ length bytes = omega (arith, bytes-length 4 w) in
-    let long : length (take (4 * i) bytes ++ bytesOf 4 w) ≡ 4 * i + 4 = simp (length-append, length-take, bytes-length) (omega arith) in
-    rw (four, add-one i, take-suc words i 0 l, words-append, e, one-word, ← t, ← commit-word w (4 * i) bytes, commit-from (bytesOf 4 w) (4 * i) bytes, sets-eq (bytesOf 4 w) bytes (4 * i) room, take-at (take (4 * i) bytes ++ bytesOf 4 w) (drop (4 * i + length (bytesOf 4 w)) bytes) (4 * i + 4) long)
 
 register-at : (k j i : ℕ) (r : Registers) → i < k → getD (registersFrom k j r) i 0 ≡ reg r (j + i)
 unfolding registersFrom

@@ -1,15 +1,38 @@
--- Blocks of words in memory: what is written word by word and read word by word, and a word of the system block.
+-- Blocks of words in memory: what is written word by word, laid into a row and read word by word, and a word of the system block.
 use Prim.Native.Nat.{ℕ, zero, suc, _+_, _-_, _*_, _/_, _%_, _≤_, _<_}
-use mathlib.Core.Path.{_≡_, ap, _∙_}
-use mathlib.Core.List.{List, [], _∷_, _++_}
+use mathlib.Core.Path.{_≡_, refl, ap, _∙_}
+use mathlib.Core.List.{List, [], _∷_, _++_, append-assoc, append-nil}
 use native.Mathlib.Nat.{add-zero, div-one}
+use native.Mathlib.Numerals.{add-one}
 use native.Mathlib.Omega.{arith}
-use lib.ListN.{length, set, take, drop, length-take, List·getD-eq-default}
-use lib.Seq.{getD-take, getD-drop}
+use lib.ListN.{length, getD, set, take, drop, length-append, length-take, List·getD-eq-default}
+use lib.Seq.{take-suc, take-at, sets-eq, getD-take, getD-drop}
 use Rattle.mi.specs.Words.{Memory, byteAt, bytesOf, bytesOfWords, wordAt, wordsAt}
 use Rattle.mi.specs.State.{Registers, reg, registersFrom}
 use Rattle.mi.specs.Map.{realWritesFrom, commit}
 use Rattle.mi.proofs.Bytes.{bytes-length}
+use Rattle.mi.proofs.Writes.{commit-from}
+
+-- ---- Bytes of words
+
+pub words-append : (xs ys : List ℕ) → bytesOfWords (xs ++ ys) ≡ bytesOfWords xs ++ bytesOfWords ys
+unfolding bytesOfWords
+words-append [] ys = refl
+words-append (x ∷ xs) ys = rw (words-append xs ys, append-assoc)
+
+pub one-word : (w : ℕ) → bytesOfWords (w ∷ []) ≡ bytesOf 4 w
+unfolding bytesOfWords
+one-word w = append-nil (bytesOf 4 w)
+
+pub words-length : (ws : List ℕ) → length (bytesOfWords ws) ≡ 4 * length ws
+unfolding bytesOfWords
+words-length [] = refl
+words-length (w ∷ ws) = rw (length-append, bytes-length 4 w, words-length ws) (omega arith)
+
+pub registers-length : (k i : ℕ) (r : Registers) → length (registersFrom k i r) ≡ k
+unfolding registersFrom
+registers-length zero i r = refl
+registers-length (suc k) i r = ap suc (registers-length k (suc i) r)
 
 -- ---- Written
 
@@ -56,6 +79,18 @@ pub commit-registers : (n i : ℕ) (r : Registers) (rest : List ℕ) (a : ℕ) (
 commit-registers n i r rest a m h =
     let e : a + 4 * (i + 1) ≡ a + 4 * i + 4 = omega arith in
     rw (registers-more n i r h, e) (commit-words (reg r i) _ (a + 4 * i) m)
+
+-- ---- Laid into a row of bytes, one after another
+
+-- a word that is laid into a row after others
+pub word-laid : (bytes words : List ℕ) (i w : ℕ) → 4 * i + 4 ≤ length bytes → i < length words → getD words i 0 ≡ w → take (4 * i) bytes ≡ bytesOfWords (take i words)
+    → take (4 * (i + 1)) (set (set (set (set bytes (4 * i) (w / 16777216 % 256)) (4 * i + 1) (w / 65536 % 256)) (4 * i + 2) (w / 256 % 256)) (4 * i + 3) (w % 256))
+    ≡ bytesOfWords (take (i + 1) words)
+word-laid bytes words i w h l e t =
+    let four : 4 * (i + 1) ≡ 4 * i + 4 = omega arith in
+    let room : 4 * i + length (bytesOf 4 w) ≤ length bytes = omega (arith, bytes-length 4 w) in
+    let long : length (take (4 * i) bytes ++ bytesOf 4 w) ≡ 4 * i + 4 = simp (length-append, length-take, bytes-length) (omega arith) in
+    rw (four, add-one i, take-suc words i 0 l, words-append, e, one-word, ← t, ← commit-word w (4 * i) bytes, commit-from (bytesOf 4 w) (4 * i) bytes, sets-eq (bytesOf 4 w) bytes (4 * i) room, take-at (take (4 * i) bytes ++ bytesOf 4 w) (drop (4 * i + length (bytesOf 4 w)) bytes) (4 * i + 4) long)
 
 -- ---- Read
 

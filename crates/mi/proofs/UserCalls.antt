@@ -1,22 +1,23 @@
 -- What one call of a desk in user mode may do, whatever its commands are: no proof here looks into a command.
-use Prim.Native.Nat.{ℕ, zero, suc, _*_, _<_}
-use mathlib.Core.Path.{_≡_, refl, ap}
+use Prim.Native.Nat.{ℕ, zero, suc, _<_}
+use mathlib.Core.Path.{_≡_, refl}
 use mathlib.Core.Bool.{Bool, true, false}
-use mathlib.Core.List.{List, [], _∷_}
+use mathlib.Core.List.{[]}
 use native.Mathlib.Omega.{arith}
 use borrow.Author.Tests.{ltb-true, lt-ltb}
 use lib.ListN.{length, length-append}
 use Rattle.mi.specs.declared.Desk.{Desk}
 use Rattle.mi.specs.declared.Answer.{Answer}
 use Rattle.mi.specs.declared.Answer.the-variants.{Accepted, Refused}
-use Rattle.mi.specs.Words.{Memory, bytesOf, bytesOfWords}
-use Rattle.mi.specs.State.{Registers, userMode, levelOf, flagsOf, withFlags, validKernelStatus, entryR15, entryStatus, registersFrom, savedBytes}
+use Rattle.mi.specs.Words.{Memory}
+use Rattle.mi.specs.State.{Registers, userMode, levelOf, flagsOf, withFlags, validKernelStatus, entryR15, entryStatus, savedBytes}
 use Rattle.mi.specs.Alarms.{OrAlarm, got, alarm}
 use Rattle.mi.specs.Map.{View, VirtualWrites, RealWrites, realWritesFrom, located}
 use Rattle.mi.specs.Commands.{Done, Act, done, modal, SystemCall, userCommand}
 use Rattle.mi.specs.Steps.{Event, quiet, entered, stopped, Outcome, stop, completed, Course, goesOn, enters, due, userWritten, ofUserCommand, interrupted, userCourse, enterIf, concluded, userStep}
 use Rattle.mi.specs.Calls.{unchanged, unlessRefused, requestRefusal, requestOutcome}
 use Rattle.mi.proofs.Writes.{Each}
+use Rattle.mi.proofs.Blocks.{words-length, registers-length}
 use Rattle.mi.proofs.Views.{EachLocated}
 
 -- what a quiet call leaves as it is
@@ -38,19 +39,9 @@ FitOutcome d P o = Fit d P (o .event) (o .desk) (o .writes)
 
 -- ---- The saved bytes
 
-length-registers : (k i : ℕ) (r : Registers) → length (registersFrom k i r) ≡ k
-unfolding registersFrom
-length-registers zero i r = refl
-length-registers (suc k) i r = ap suc (length-registers k (suc i) r)
-
-length-words : (ws : List ℕ) → length (bytesOfWords ws) ≡ 4 * length ws
-unfolding bytesOfWords bytesOf
-length-words [] = refl
-length-words (w ∷ ws) = let h = length-words ws in omega arith
-
 pub length-saved : (r : Registers) (s x : ℕ) → length (savedBytes r s x) ≡ 72
 unfolding savedBytes
-length-saved r s x = simp (length-words, length-append, length-registers)
+length-saved r s x = simp (words-length, length-append, registers-length)
 
 -- ---- Courses
 

@@ -1,8 +1,10 @@
 -- `value_to` is right for each size: its bytes go one after the other to the places from a on.
+use mathlib.Core.Path.{sym}
 use native.Mathlib.Omega.{arith}
 use borrow.Author.Needs.{needs}
 use lib.ListN.{length-set}
-use Rattle.access.proofs.Storing.{one-byte-stored, two-bytes-stored, four-bytes-stored}
+use Rattle.mi.proofs.Blocks.{commit-word}
+use Rattle.access.proofs.Storing.{one-byte-stored, two-bytes-stored}
 use Rattle.access.proofs.value_to.Statement.{statement}
 use Rattle.access.proofs.value_to.Tie as tie
 
@@ -85,7 +87,7 @@ same-length-3 : tie.Need-same-length-3
 same-length-3 c = search needs
 
 returns-3 : tie.Need-returns-3
-returns-3 c = rw (c .enum-told3 .given .1) (four-bytes-stored _ _ _)
+returns-3 c = rw (c .enum-told3 .given .1) (sym (commit-word _ _ _))
 
 pub value-to-spec : {M : Type 1} → statement M
 value-to-spec =

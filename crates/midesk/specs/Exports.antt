@@ -1,0 +1,61 @@
+-- The four calls on numbers and bytes: unpack the state, make the call of `mi`, pack what it leaves.
+use Prim.Native.Nat.{ℕ, _+_, _*_}
+use mathlib.Core.List.{List}
+use Rattle.mi.specs.declared.StepAnswer.{StepAnswer}
+use Rattle.mi.specs.declared.StepAnswer.the-variants as stepAnswer
+use Rattle.mi.specs.declared.Reply.{Reply}
+use Rattle.mi.specs.Words.{Memory}
+use Rattle.mi.specs.Calls.{refusalNumber, answerNumber, freshOf, Stepped, stepOf, requestOf, Ran, runOf}
+use Rattle.midesk.specs.Layout.{packed, unpacked}
+
+-- A call that leaves the memory alone: its answer is the number of its refusal, 0 where it was carried out
+
+pub record Replied : Type 0 where
+  pub answer : ℕ
+  pub state : List ℕ
+
+unfoldable pub repliedOf : Reply → Replied
+repliedOf r = record { answer = answerNumber (r .answer); state = packed (r .desk) }
+
+-- over a memory of n bytes
+unfoldable pub freshCall : ℕ → ℕ → ℕ → ℕ → Replied
+freshCall n system control start = repliedOf (freshOf n (record { 0 = system }) (record { 0 = control }) (record { 0 = start }))
+
+unfoldable pub requestCall : List ℕ → ℕ → Replied
+requestCall state level = repliedOf (requestOf (unpacked state) level)
+
+-- A step answers with a kind, times 2^32, and a number: 0 a command done, 1 refused with its number, 2 a kernel entry with its cause, 3 a stop with its number
+
+abbrev pub kindTimes : ℕ → ℕ
+kindTimes k = k * 0x1_0000_0000
+
+unfoldable pub stepCode : StepAnswer → ℕ
+stepCode stepAnswer.Done = 0
+stepCode (stepAnswer.Refused k) = kindTimes 1 + refusalNumber k
+stepCode (stepAnswer.Entered i) = kindTimes 2 + i
+stepCode (stepAnswer.Stopped n) = kindTimes 3 + n
+
+pub record StepLeft : Type 0 where
+  pub answer : ℕ
+  pub state : List ℕ
+  pub memory : Memory
+
+unfoldable pub stepLeft : Stepped → StepLeft
+stepLeft r = record { answer = stepCode (r .reply .answer); state = packed (r .reply .desk); memory = r .memory }
+
+unfoldable pub stepCall : List ℕ → Memory → StepLeft
+stepCall state m = stepLeft (stepOf (unpacked state) m)
+
+-- A run answers with the number of its refusal, 0 where it was carried out, and beside it the steps that it made
+
+pub record RunLeft : Type 0 where
+  pub answer : ℕ
+  pub steps : ℕ
+  pub state : List ℕ
+  pub memory : Memory
+
+unfoldable pub runLeft : Ran → RunLeft
+runLeft r = record { answer = answerNumber (r .reply .answer); steps = r .reply .steps; state = packed (r .reply .desk); memory = r .memory }
+
+unfoldable pub runCall : ℕ → List ℕ → Memory → RunLeft
+runCall n state m = runLeft (runOf n (unpacked state) m)
