@@ -1,10 +1,10 @@
 /*
  * Replays sequences of calls, which the model's program `sequences` writes, and compares every answer, state and memory
- * with the model's, bit for bit. Reads them from standard input; their form is described in model/src/sequences/stream.rs.
+ * with the model's, bit for bit. Reads them from standard input; model/src/sequences/stream.rs describes their form.
  *
  * Memory, state and step count each stand between pages that no access may touch: every sequence is played twice, once
  * with its first bytes right after such a page, once with its last bytes right before one. The bytes that share their
- * pages are filled and must stay as they are. So code that was compiled without a sanitizer is caught too if it strays.
+ * pages are filled and must stay as they are. So an access beside them is caught, in code without a sanitizer too.
  *
  * Besides it is checked that a refused call changes nothing, that a run is as many steps, and that the helpers of
  * midesk.h read and write the whole state.
@@ -26,7 +26,7 @@
 #define GUARD ((size_t)1 << 32) /* no 32-bit address leads past it */
 #define LONGEST ((size_t)MIDESK_MAX_MEMORY + PAGE)
 #define FILL 0xA5
-#define SECONDS 60 /* a sequence that takes longer hangs */
+#define SECONDS 20 /* a sequence that takes longer hangs */
 #define SHOWN 5    /* differences that are printed */
 
 /* ---- What is being done, for the messages. */
@@ -49,15 +49,16 @@ static void bad_input(const char *what)
 struct buffer {
     const char *name;
     uint8_t *pages; /* the first page that may be touched */
+    size_t inner;   /* bytes between the guards */
     size_t open;    /* bytes of pages that may be touched */
     uint8_t *at;    /* the buffer */
     size_t len;
 };
 
 static uint8_t filled[PAGE]; /* FILL throughout */
-static struct buffer memory = {"memory", NULL, 0, NULL, 0};
-static struct buffer state = {"state", NULL, 0, NULL, 0};
-static struct buffer count = {"step count", NULL, 0, NULL, 0};
+static struct buffer memory = {"memory", NULL, 0, 0, NULL, 0};
+static struct buffer state = {"state", NULL, 0, 0, NULL, 0};
+static struct buffer count = {"step count", NULL, 0, 0, NULL, 0};
 
 static void reserve(struct buffer *b, size_t most)
 {
@@ -68,6 +69,7 @@ static void reserve(struct buffer *b, size_t most)
         exit(2);
     }
     b->pages = (uint8_t *)p + GUARD;
+    b->inner = inner;
 }
 
 /* Opens the pages for len bytes and lays the buffer at their low or high end. For 0 bytes no page is open. */
@@ -98,7 +100,7 @@ static int kept(const struct buffer *b)
 
 static int say_where(char *out, size_t room, const struct buffer *b, const uint8_t *touched)
 {
-    if (b->pages == NULL || touched < b->pages - GUARD || touched >= b->pages + LONGEST + GUARD)
+    if (b->pages == NULL || touched < b->pages - GUARD || touched >= b->pages + b->inner + GUARD)
         return 0;
     if (touched >= b->at + b->len)
         snprintf(out, room, "byte %lu past the end of the %s", (unsigned long)(touched - (b->at + b->len)), b->name);
@@ -422,10 +424,45 @@ static int null_memory(int high)
         && same_number("number of step", midesk_number(a), MIDESK_REFUSED_LENGTH);
     for (i = 0; ok && i < 3; i++) {
         memset(count.at, FILL, sizeof a);
-        ok = same_number("run", midesk_run(NULL, 0, state.at, (uint64_t)i, (uint64_t *)(void *)count.at), MIDESK_REFUSED_LENGTH)
-            && same_number("steps of run", get_count(), 0);
+        a = midesk_run(NULL, 0, state.at, (uint64_t)i, (uint64_t *)(void *)count.at);
+        ok = same_number("run", a, MIDESK_REFUSED_LENGTH) && same_number("steps of run", get_count(), 0);
     }
     return ok && same_bytes("state", state.at, any, STATE) && all_kept();
+}
+
+/* Lengths that would be allowed if only their low 32 bits counted. */
+static int long_memory(void)
+{
+    static const size_t lengths[] = {((size_t)1 << 32) + 1024, ((size_t)1 << 32) + 512, (size_t)1 << 32};
+    uint8_t fresh[STATE], zero[STATE], least[512] = {0};
+    const int how = MAP_PRIVATE | MAP_ANONYMOUS | MAP_NORESERVE;
+    uint8_t *mem = (uint8_t *)mmap(NULL, lengths[0], PROT_READ | PROT_WRITE, how, -1, 0);
+    size_t i;
+    int ok = 1;
+    if (mem == (uint8_t *)MAP_FAILED) {
+        fprintf(stderr, "compare: no memory of more than 4 GiB can be reserved; those lengths are left out\n");
+        return 1;
+    }
+    now_call = "calls with more than 4 GiB";
+    place(&state, STATE, 1);
+    place(&count, sizeof(uint64_t), 1);
+    memset(zero, 0, STATE);
+    midesk_set_word(zero, MIDESK_MARK, MIDESK_REFUSED_LENGTH);
+    ok = same_number("fresh", midesk_fresh(least, sizeof least, 0, 256, 0, fresh), MIDESK_OK);
+    for (i = 0; ok && i < sizeof lengths / sizeof lengths[0]; i++) {
+        uint64_t a;
+        ok = same_number("fresh", midesk_fresh(mem, lengths[i], 0, 256, 0, state.at), MIDESK_REFUSED_LENGTH)
+            && same_bytes("state of fresh", state.at, zero, STATE);
+        memcpy(state.at, fresh, STATE);
+        a = midesk_step(mem, lengths[i], state.at);
+        ok = ok && same_number("kind of step", midesk_kind(a), MIDESK_REFUSED)
+            && same_number("number of step", midesk_number(a), MIDESK_REFUSED_LENGTH);
+        a = midesk_run(mem, lengths[i], state.at, 1, (uint64_t *)(void *)count.at);
+        ok = ok && same_number("run", a, MIDESK_REFUSED_LENGTH) && same_number("steps of run", get_count(), 0)
+            && same_bytes("state", state.at, fresh, STATE);
+    }
+    munmap(mem, lengths[0]);
+    return ok && all_kept();
 }
 
 static void catch_signals(void)
@@ -464,9 +501,10 @@ int main(void)
     reserve(&state, STATE);
     reserve(&count, sizeof(uint64_t));
     catch_signals();
-    strcpy(now_family, "null pointer");
+    strcpy(now_family, "lengths");
     for (high = 0; high < 2; high++)
         differ += !null_memory(high);
+    differ += !long_memory();
     get(head, sizeof head);
     if (memcmp(head, "MISEQ001", 8) != 0)
         bad_input("it does not begin with MISEQ001");

@@ -89,14 +89,15 @@ extern "C" {
 #define MIDESK_STOPPED 3u /* the desk has stopped; the number is the one that it stopped with */
 
 /* Alarms. In user mode each is the cause of a kernel entry, in kernel mode the number of a stop. */
-#define MIDESK_ALARM_ADDRESS 8u   /* the page is at or past the map length; in kernel mode: the byte lies past the memory */
-#define MIDESK_ALARM_ABSENT 9u    /* the map's entry is absent */
-#define MIDESK_ALARM_ENTRY 10u    /* a present entry has a forbidden bit, or its frame lies past the memory */
-#define MIDESK_ALARM_READ_ONLY 11u /* a write meets an entry that is not writable */
-#define MIDESK_ALARM_COMMAND 12u  /* the command byte is unknown */
-#define MIDESK_ALARM_MODE 13u     /* HALT or RESUME in user mode, or a system call in kernel mode */
-#define MIDESK_ALARM_OPERAND 14u  /* an operand breaks a form rule, or RESUME's block cannot be used */
-#define MIDESK_ALARM_DIVIDE 15u   /* DIV by zero */
+#define MIDESK_ALARM_ADDRESS 8u     /* the page is at or past the map length, or in kernel mode the byte lies
+                                       past the memory */
+#define MIDESK_ALARM_ABSENT 9u      /* the map's entry is absent */
+#define MIDESK_ALARM_ENTRY 10u      /* a present entry has a forbidden bit, or its frame lies past the memory */
+#define MIDESK_ALARM_READ_ONLY 11u  /* a write meets an entry that is not writable */
+#define MIDESK_ALARM_COMMAND 12u    /* the command byte is unknown */
+#define MIDESK_ALARM_MODE 13u       /* HALT or RESUME in user mode, or a system call in kernel mode */
+#define MIDESK_ALARM_OPERAND 14u    /* an operand breaks a form rule, or RESUME's block cannot be used */
+#define MIDESK_ALARM_DIVIDE 15u     /* DIV by zero */
 
 /* Other causes of a kernel entry. */
 #define MIDESK_CAUSE_SYSTEM_CALL 1u
@@ -127,9 +128,9 @@ uint32_t midesk_fresh(const uint8_t *mem, size_t len, uint32_t system, uint32_t 
 uint64_t midesk_step(uint8_t *mem, size_t len, uint8_t state[MIDESK_STATE_BYTES]);
 
 /*
- * At most n steps, fewer only where the desk stops: exactly what that many calls of midesk_step leave. Kernel entries do
- * not end it. *steps becomes the number of steps made, the stopping one and entries included; 0 when refused. A run of
- * 0 steps checks and changes nothing.
+ * At most n steps, fewer only where the desk stops: exactly what that many calls of midesk_step leave. Kernel entries
+ * do not end it. *steps becomes the number of steps made, the stopping one and entries included; 0 when refused. A run
+ * of 0 steps makes the same checks and changes nothing.
  *
  * Answers MIDESK_OK or a refusal as midesk_step has them; refused, state and memory are as they were. Look at
  * midesk_running(state) for whether the desk has stopped, and at midesk_mark(state) for the number.
@@ -159,7 +160,7 @@ static inline uint32_t midesk_number(uint64_t answer)
 /* A word of the state, by its place: midesk_word(state, MIDESK_STATUS). Of a memory too. */
 static inline uint32_t midesk_word(const uint8_t *bytes, size_t at)
 {
-    return (uint32_t)bytes[at] << 24 | (uint32_t)bytes[at + 1] << 16 | (uint32_t)bytes[at + 2] << 8 | (uint32_t)bytes[at + 3];
+    return (uint32_t)bytes[at] << 24 | (uint32_t)bytes[at + 1] << 16 | (uint32_t)bytes[at + 2] << 8 | bytes[at + 3];
 }
 
 /* Puts a word into the state, by its place. Into a memory too. */
