@@ -16,6 +16,7 @@ pub mod gen;
 pub mod memory;
 pub mod operand;
 pub mod rng;
+pub mod sequences;
 pub mod state;
 pub mod store;
 pub mod table;

@@ -101,6 +101,18 @@ impl Maker {
         outcome
     }
 
+    /// Goes on from another memory of the same length and another state.
+    pub fn take(&mut self, memory: &[u8], state: State) {
+        self.image.copy_from_slice(memory);
+        self.memory.copy_from_slice(memory);
+        self.state = state;
+    }
+
+    /// The start's memory with everything laid so far.
+    pub fn image(&self) -> &[u8] {
+        &self.image
+    }
+
     pub fn keep(&mut self, call: Call) {
         self.calls.push(call);
     }

@@ -6,7 +6,7 @@ use crate::case::{Call, Case};
 use crate::rng::Rng;
 use crate::state::*;
 
-fn good_state(rng: &mut Rng, length: u32) -> State {
+pub fn good_state(rng: &mut Rng, length: u32) -> State {
     let kernel = length < 1024 || rng.chance(50);
     State {
         registers: std::array::from_fn(|i| if i % 4 == 1 { rng.word() } else { 0 }),
@@ -21,7 +21,7 @@ fn good_state(rng: &mut Rng, length: u32) -> State {
 }
 
 /// Spoils a state so that one number refuses it.
-fn spoil(rng: &mut Rng, state: &mut State, number: u32, variant: u32, length: u32) {
+pub fn spoil(rng: &mut Rng, state: &mut State, number: u32, variant: u32, length: u32) {
     match (number, variant % 6) {
         (2, 0) => state.system_block |= 1 + rng.below(3),
         (2, 1) => state.system_block = length - 252,
@@ -36,7 +36,7 @@ fn spoil(rng: &mut Rng, state: &mut State, number: u32, variant: u32, length: u3
         (3, 4) => state.control_block = 0xFFFF_FFB0,
         (3, _) => state.control_block = rng.word() | 0x0200_0000,
         (4, 0) => state.map_base |= 1 + rng.below(3),
-        (4, 1) => state.map_length = (length - state.map_base) / 4 + 1,
+        (4, 1) => state.map_length = length.wrapping_sub(state.map_base) / 4 + 1,
         (4, 2) => (state.map_base, state.map_length) = (length + 4, 0),
         (4, 3) => (state.map_base, state.map_length) = (0xFFFF_FFF0, 4 + rng.below(8)),
         (4, 4) => state.map_length = 0x4000_0000 + rng.below(4),
@@ -52,7 +52,7 @@ fn spoil(rng: &mut Rng, state: &mut State, number: u32, variant: u32, length: u3
     }
 }
 
-fn any_level(rng: &mut Rng) -> u32 {
+pub fn any_level(rng: &mut Rng) -> u32 {
     match rng.below(8) {
         0 => 0,
         1 => 16,

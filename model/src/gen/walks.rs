@@ -10,7 +10,7 @@ use crate::code::decode;
 use crate::rng::Rng;
 use crate::state::*;
 
-fn any_kinds(rng: &mut Rng) -> Vec<Kind> {
+pub fn any_kinds(rng: &mut Rng) -> Vec<Kind> {
     let count = 2 + rng.below(8);
     let mut kinds = Vec::new();
     for _ in 0..count {
@@ -112,7 +112,7 @@ fn kernel_command(desk: &mut Layout, bytes: &[u8]) -> Vec<u8> {
 }
 
 /// Lays a command where the desk is about to run one, and the entry it needs.
-fn prepare(desk: &mut Layout, bytes: &[u8]) {
+pub fn prepare(desk: &mut Layout, bytes: &[u8]) {
     if desk.maker.state.stopped() {
         return;
     }
@@ -123,7 +123,7 @@ fn prepare(desk: &mut Layout, bytes: &[u8]) {
     desk.maker.decide_next();
 }
 
-fn walk(rng: &mut Rng, bytes: &[u8]) -> Case {
+pub fn walk(rng: &mut Rng, bytes: &[u8]) -> Case {
     let kinds = any_kinds(rng);
     let shared = rng.chance(70);
     let mut desk = layout(Rng::new(rng.next()), &kinds, shared);
@@ -185,66 +185,66 @@ const NOISE: u32 = 250;
 /// Random bytes where code, map, blocks and data are.
 pub fn noise() -> Vec<Case> {
     let mut rng = family_rng("noise");
-    let mut cases = Vec::new();
-    for round in 0..NOISE {
-        let frames = 1 + rng.below(6);
-        let length = frames * 512;
-        let mut maker = Maker::new(Rng::new(rng.next()), length as usize);
-        for frame in 0..frames {
-            maker.ramp(frame * 512, 512);
-        }
-        let mut state = State {
-            registers: std::array::from_fn(|_| if rng.chance(60) { rng.below(length) } else { 0 }),
-            status: rng.word() & (LEVEL | FLAGS),
-            pending: if rng.chance(30) { rng.word() as u16 & 0xFFFE } else { 0 },
-            map_base: 4 * rng.below(100),
-            map_length: 1 + rng.below(8),
-            system_block: 4 * rng.below(40),
-            control_block: 4 * rng.below(100),
-            mark: Mark::Running,
-        };
-        if rng.chance(35) {
-            state.status |= KERNEL;
-        }
-        if rng.chance(80) {
-            for page in 0..state.map_length {
-                let entry = rng.word() & 0xC000_0000 | 0x8000_0000 | rng.below(frames + 1);
-                maker.lay_word(state.map_base + 4 * page, entry);
-            }
-        }
-        maker.begin(state);
-        // Bytes that look like commands half the time.
-        let at = if round % 2 == 0 { state.registers[PC] } else { rng.below(length) };
-        state.registers[PC] = at;
-        maker.begin(state);
-        let bytes = known_bytes();
-        let mut code = Vec::new();
-        for _ in 0..2 + rng.below(4) {
-            let byte = rng.pick(&bytes);
-            code.push(byte);
-            for _ in 0..decode(byte).unwrap().operands.len() {
-                let form = rng.below(10) as u8;
-                let pair = if rng.chance(60) { 0 } else { rng.word() as u8 };
-                let z = if rng.chance(70) { rng.below(length) } else { rng.word() };
-                code.extend([form, pair]);
-                code.extend(z.to_be_bytes());
-            }
-        }
-        maker.code(&code);
-        for _ in 0..3 + rng.below(5) {
-            match rng.below(8) {
-                0 => maker.call(Call::Run(rng.below(9))),
-                1 => maker.call(Call::Request(rng.below(17))),
-                _ => {
-                    if rng.chance(70) {
-                        maker.decide_next();
-                    }
-                    maker.call(Call::Step)
-                }
-            };
-            maker.kernel_next = rng.below(length);
-        }
-        cases.push(maker.finish());
+    (0..NOISE).map(|round| noise_case(&mut rng, round)).collect()
+}
+
+pub fn noise_case(rng: &mut Rng, round: u32) -> Case {
+    let frames = 1 + rng.below(6);
+    let length = frames * 512;
+    let mut maker = Maker::new(Rng::new(rng.next()), length as usize);
+    for frame in 0..frames {
+        maker.ramp(frame * 512, 512);
     }
-    cases
+    let mut state = State {
+        registers: std::array::from_fn(|_| if rng.chance(60) { rng.below(length) } else { 0 }),
+        status: rng.word() & (LEVEL | FLAGS),
+        pending: if rng.chance(30) { rng.word() as u16 & 0xFFFE } else { 0 },
+        map_base: 4 * rng.below(100),
+        map_length: 1 + rng.below(8),
+        system_block: 4 * rng.below(40),
+        control_block: 4 * rng.below(100),
+        mark: Mark::Running,
+    };
+    if rng.chance(35) {
+        state.status |= KERNEL;
+    }
+    if rng.chance(80) {
+        for page in 0..state.map_length {
+            let entry = rng.word() & 0xC000_0000 | 0x8000_0000 | rng.below(frames + 1);
+            maker.lay_word(state.map_base + 4 * page, entry);
+        }
+    }
+    maker.begin(state);
+    // Bytes that look like commands half the time.
+    let at = if round % 2 == 0 { state.registers[PC] } else { rng.below(length) };
+    state.registers[PC] = at;
+    maker.begin(state);
+    let bytes = known_bytes();
+    let mut code = Vec::new();
+    for _ in 0..2 + rng.below(4) {
+        let byte = rng.pick(&bytes);
+        code.push(byte);
+        for _ in 0..decode(byte).unwrap().operands.len() {
+            let form = rng.below(10) as u8;
+            let pair = if rng.chance(60) { 0 } else { rng.word() as u8 };
+            let z = if rng.chance(70) { rng.below(length) } else { rng.word() };
+            code.extend([form, pair]);
+            code.extend(z.to_be_bytes());
+        }
+    }
+    maker.code(&code);
+    for _ in 0..3 + rng.below(5) {
+        match rng.below(8) {
+            0 => maker.call(Call::Run(rng.below(9))),
+            1 => maker.call(Call::Request(rng.below(17))),
+            _ => {
+                if rng.chance(70) {
+                    maker.decide_next();
+                }
+                maker.call(Call::Step)
+            }
+        };
+        maker.kernel_next = rng.below(length);
+    }
+    maker.finish()
 }

@@ -6,6 +6,7 @@ mod forms;
 mod near;
 mod numbers;
 mod order;
+mod sequences;
 mod stored;
 mod tried;
 

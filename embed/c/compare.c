@@ -1,0 +1,550 @@
+/*
+ * Replays sequences of calls, which the model's program `sequences` writes, and compares every answer, state and memory
+ * with the model's, bit for bit. Reads them from standard input; model/src/sequences/stream.rs describes their form.
+ *
+ * Memory, state and step count each stand between pages that no access may touch: every sequence is played twice, once
+ * with its first bytes right after such a page, once with its last bytes right before one. The bytes that share their
+ * pages are filled and must stay as they are. So an access beside them is caught, in code without a sanitizer too.
+ *
+ * Besides it is checked that a refused call changes nothing, that a run is as many steps, and that the helpers of
+ * midesk.h read and write the whole state.
+ *
+ * Exit status: 0 all equal, 1 something differs, 2 the input cannot be used.
+ */
+#define _DEFAULT_SOURCE
+#include <signal.h>
+#include <stdio.h>
+#include <stdlib.h>
+#include <string.h>
+#include <sys/mman.h>
+#include <unistd.h>
+
+#include "midesk.h"
+
+#define STATE MIDESK_STATE_BYTES
+#define PAGE ((size_t)4096)
+#define GUARD ((size_t)1 << 32) /* no 32-bit address leads past it */
+#define LONGEST ((size_t)MIDESK_MAX_MEMORY + PAGE)
+#define FILL 0xA5
+#define SECONDS 20 /* a sequence that takes longer hangs */
+#define SHOWN 5    /* differences that are printed */
+
+/* ---- What is being done, for the messages. */
+
+static unsigned long now_sequence, now_act;
+static const char *now_call = "nothing";
+static char now_family[256];
+static const char *now_place = "";
+static int first_time; /* the first of the two times that a sequence is played, whose calls are counted */
+static unsigned long differ; /* sequences that differ */
+
+static void bad_input(const char *what)
+{
+    fprintf(stderr, "compare: cannot use the input: %s (sequence %lu, act %lu)\n", what, now_sequence, now_act);
+    exit(2);
+}
+
+/* ---- Buffers between guards. */
+
+struct buffer {
+    const char *name;
+    uint8_t *pages; /* the first page that may be touched */
+    size_t inner;   /* bytes between the guards */
+    size_t open;    /* bytes of pages that may be touched */
+    uint8_t *at;    /* the buffer */
+    size_t len;
+};
+
+static uint8_t filled[PAGE]; /* FILL throughout */
+static struct buffer memory = {"memory", NULL, 0, 0, NULL, 0};
+static struct buffer state = {"state", NULL, 0, 0, NULL, 0};
+static struct buffer count = {"step count", NULL, 0, 0, NULL, 0};
+
+static void reserve(struct buffer *b, size_t most)
+{
+    size_t inner = (most + PAGE - 1) / PAGE * PAGE;
+    void *p = mmap(NULL, inner + 2 * GUARD, PROT_NONE, MAP_PRIVATE | MAP_ANONYMOUS | MAP_NORESERVE, -1, 0);
+    if (p == MAP_FAILED) {
+        perror("compare: mmap");
+        exit(2);
+    }
+    b->pages = (uint8_t *)p + GUARD;
+    b->inner = inner;
+}
+
+/* Opens the pages for len bytes and lays the buffer at their low or high end. For 0 bytes no page is open. */
+static void place(struct buffer *b, size_t len, int high)
+{
+    size_t open = (len + PAGE - 1) / PAGE * PAGE;
+    if ((b->open > open && mprotect(b->pages + open, b->open - open, PROT_NONE) != 0)
+        || (b->open < open && mprotect(b->pages, open, PROT_READ | PROT_WRITE) != 0)) {
+        perror("compare: mprotect");
+        exit(2);
+    }
+    b->open = open;
+    b->len = len;
+    b->at = high ? b->pages + (open - len) : b->pages;
+    if (open != 0) {
+        memset(b->pages, FILL, (size_t)(b->at - b->pages));
+        memset(b->at + len, FILL, (size_t)(b->pages + open - (b->at + len)));
+    }
+}
+
+/* Whether the bytes that share the buffer's pages are as they were filled. */
+static int kept(const struct buffer *b)
+{
+    size_t before = (size_t)(b->at - b->pages), past = b->open - before - b->len;
+    return (before == 0 || memcmp(b->pages, filled, before) == 0)
+        && (past == 0 || memcmp(b->at + b->len, filled, past) == 0);
+}
+
+static int say_where(char *out, size_t room, const struct buffer *b, const uint8_t *touched)
+{
+    if (b->pages == NULL || touched < b->pages - GUARD || touched >= b->pages + b->inner + GUARD)
+        return 0;
+    if (touched >= b->at + b->len)
+        snprintf(out, room, "byte %lu past the end of the %s", (unsigned long)(touched - (b->at + b->len)), b->name);
+    else
+        snprintf(out, room, "byte %lu before the start of the %s", (unsigned long)(b->at - touched), b->name);
+    return 1;
+}
+
+static void say_and_leave(const char *what)
+{
+    char line[512];
+    int n = snprintf(line, sizeof line, "compare: sequence %lu (%s), act %lu (%s), %s: %s\n", now_sequence, now_family,
+                     now_act, now_call, now_place, what);
+    if (n > 0 && write(STDERR_FILENO, line, (size_t)n < sizeof line ? (size_t)n : sizeof line - 1) < 0)
+        _exit(1);
+    _exit(1);
+}
+
+static void on_touch(int number, siginfo_t *info, void *context)
+{
+    char where[128] = "an address of none of the buffers";
+    const uint8_t *touched = (const uint8_t *)info->si_addr;
+    (void)number;
+    (void)context;
+    if (!say_where(where, sizeof where, &memory, touched) && !say_where(where, sizeof where, &state, touched))
+        say_where(where, sizeof where, &count, touched);
+    strcat(where, " was touched");
+    say_and_leave(where);
+}
+
+static void on_alarm(int number)
+{
+    (void)number;
+    say_and_leave("no answer; the call hangs");
+}
+
+/* ---- The input. */
+
+struct reader {
+    const uint8_t *at, *end;
+};
+
+static const uint8_t *take(struct reader *r, size_t n)
+{
+    const uint8_t *p = r->at;
+    if ((size_t)(r->end - r->at) < n)
+        bad_input("a sequence is shorter than its contents");
+    r->at += n;
+    return p;
+}
+
+static uint32_t take_u32(struct reader *r)
+{
+    return midesk_word(take(r, 4), 0);
+}
+
+static uint64_t take_u64(struct reader *r)
+{
+    uint64_t high = take_u32(r);
+    return high << 32 | take_u32(r);
+}
+
+static void get(void *to, size_t n)
+{
+    if (n != 0 && fread(to, 1, n, stdin) != n)
+        bad_input(ferror(stdin) ? "it cannot be read" : "it is cut short");
+}
+
+/* Makes the changes in bytes[0 .. len]. Answers their number. */
+static uint32_t change(struct reader *r, uint8_t *bytes, size_t len)
+{
+    uint32_t places = take_u32(r), i;
+    for (i = 0; i < places; i++) {
+        size_t at = take_u32(r), n = take_u32(r);
+        if (at > len || n > len - at || n == 0)
+            bad_input("a change lies past the memory");
+        memcpy(bytes + at, take(r, n), n);
+    }
+    return places;
+}
+
+/* ---- Comparing. */
+
+static uint8_t *expected; /* the model's memory */
+static uint8_t *after;    /* the memory after a run */
+static unsigned long calls, runs, run_steps, refused;
+
+static int fail(const char *what, const char *detail)
+{
+    if (differ < SHOWN)
+        fprintf(stderr, "compare: sequence %lu (%s), act %lu (%s), %s: %s%s\n", now_sequence, now_family, now_act,
+                now_call, now_place, what, detail);
+    return 0;
+}
+
+static int same_number(const char *what, uint64_t have, uint64_t want)
+{
+    char detail[96];
+    if (have == want)
+        return 1;
+    snprintf(detail, sizeof detail, " is %llXh, the model's %llXh", (unsigned long long)have, (unsigned long long)want);
+    return fail(what, detail);
+}
+
+static int same_bytes(const char *what, const uint8_t *have, const uint8_t *want, size_t n)
+{
+    char detail[96];
+    size_t i = 0;
+    if (n == 0 || memcmp(have, want, n) == 0)
+        return 1;
+    while (have[i] == want[i])
+        i++;
+    snprintf(detail, sizeof detail, ": byte %lu is %02Xh, not %02Xh", (unsigned long)i, have[i], want[i]);
+    return fail(what, detail);
+}
+
+static int all_kept(void)
+{
+    const struct buffer *list[3];
+    size_t i;
+    list[0] = &memory;
+    list[1] = &state;
+    list[2] = &count;
+    for (i = 0; i < 3; i++)
+        if (!kept(list[i]))
+            return fail("a byte was written beside the ", list[i]->name);
+    return 1;
+}
+
+static uint64_t get_count(void)
+{
+    uint64_t n;
+    memcpy(&n, count.at, sizeof n);
+    return n;
+}
+
+static uint32_t call_run(uint64_t n)
+{
+    return midesk_run(memory.at, memory.len, state.at, n, (uint64_t *)(void *)count.at);
+}
+
+/* Makes the steps of a run one by one, from `before` and the memory `expected`, and compares with what the run left. */
+static int run_as_steps(uint64_t n, uint32_t answer, uint64_t made, const uint8_t before[STATE])
+{
+    uint8_t left[STATE];
+    uint64_t i, a = 0;
+    int ok = 1;
+    memcpy(left, state.at, STATE);
+    memcpy(state.at, before, STATE);
+    if (memory.len != 0) {
+        memcpy(after, memory.at, memory.len);
+        memcpy(memory.at, expected, memory.len);
+    }
+    if (answer != MIDESK_OK) {
+        a = midesk_step(memory.at, memory.len, state.at);
+        ok = same_number("the kind of a step instead of the refused run", midesk_kind(a), MIDESK_REFUSED)
+            && same_number("the refusal of a step instead of the refused run", midesk_number(a), answer);
+    }
+    for (i = 0; ok && i < made; i++) {
+        a = midesk_step(memory.at, memory.len, state.at);
+        if (midesk_kind(a) == MIDESK_REFUSED || (midesk_kind(a) == MIDESK_STOPPED && i + 1 < made))
+            ok = fail("a step of the run", " is refused or stops before the run's end");
+    }
+    if (ok && (made > n || (answer == MIDESK_OK && made < n && (made == 0 || midesk_kind(a) != MIDESK_STOPPED))))
+        ok = fail("the run's step count", " is neither n nor that of a stop");
+    if (first_time)
+        run_steps += (unsigned long)made;
+    return ok && same_bytes("state of the steps against that of the run", state.at, left, STATE)
+        && same_bytes("memory of the steps against that of the run", memory.at, after, memory.len);
+}
+
+/* Makes one call and compares. The arguments are read already but for what is expected. */
+static int call(struct reader *r, unsigned kind, const uint32_t words[3], uint64_t n)
+{
+    uint8_t before[STATE];
+    const uint8_t *want_state;
+    uint64_t answer = 0, want, made = 0, want_made = 0;
+    int ok, is_refused;
+    memcpy(before, state.at, STATE);
+    memset(count.at, FILL, sizeof made);
+    switch (kind) {
+    case 0: answer = midesk_fresh(memory.at, memory.len, words[0], words[1], words[2], state.at); break;
+    case 1: answer = midesk_step(memory.at, memory.len, state.at); break;
+    case 2:
+        answer = call_run(n);
+        made = get_count();
+        break;
+    default: answer = midesk_request(state.at, words[0]); break;
+    }
+    want = kind == 1 ? take_u64(r) : take_u32(r);
+    if (kind == 2)
+        want_made = take_u64(r);
+    want_state = take(r, STATE);
+    is_refused = kind == 1 ? midesk_kind(answer) == MIDESK_REFUSED : answer != 0;
+    if (first_time) {
+        calls++;
+        refused += (unsigned long)is_refused;
+        runs += kind == 2;
+    }
+    ok = same_number("the answer", answer, want) && same_number("the step count", made, want_made)
+        && (kind == 0 || !is_refused || same_bytes("state of a refused call", state.at, before, STATE))
+        && same_bytes("state", state.at, want_state, STATE) && all_kept();
+    if (ok && (is_refused || kind == 0 || kind == 3))
+        ok = same_bytes("memory of a call that leaves it alone", memory.at, expected, memory.len);
+    if (ok && kind == 2)
+        ok = run_as_steps(n, (uint32_t)answer, made, before);
+    change(r, expected, memory.len);
+    return ok && same_bytes("memory", memory.at, expected, memory.len) && all_kept();
+}
+
+/* Writes every value of the state into another with the helpers of midesk.h. */
+static int helpers(void)
+{
+    static const size_t words[] = {MIDESK_STATUS,       MIDESK_MAP_BASE,      MIDESK_MAP_LENGTH,
+                                   MIDESK_SYSTEM_BLOCK, MIDESK_CONTROL_BLOCK, MIDESK_MARK};
+    uint8_t copy[STATE];
+    size_t i;
+    unsigned k;
+    memset(copy, FILL, sizeof copy);
+    for (k = 0; k < 16; k++)
+        midesk_set_register(copy, k, midesk_register(state.at, k));
+    for (i = 0; i < sizeof words / sizeof words[0]; i++)
+        midesk_set_word(copy, words[i], midesk_word(state.at, words[i]));
+    midesk_set_pending(copy, midesk_pending(state.at));
+    if (midesk_running(state.at) != (midesk_mark(state.at) == 0xFFFFFFFFu))
+        return fail("midesk_running", " is wrong");
+    return same_bytes("state as the helpers copy it", copy, state.at, STATE);
+}
+
+/* Lends a memory of this length from here on, with the bytes that are expected. */
+static void lend(size_t len, int high)
+{
+    if (len > LONGEST)
+        bad_input("a memory length is too great");
+    if (len > memory.len)
+        memset(expected + memory.len, 0, len - memory.len);
+    place(&memory, len, high);
+    if (len != 0)
+        memcpy(memory.at, expected, len);
+}
+
+static int play(struct reader r, int high)
+{
+    static const char *const names[] = {"fresh", "step", "run", "request", "the caller's state", "the caller's memory",
+                                        "the caller's length"};
+    uint32_t acts, i;
+    size_t length;
+    now_place = high ? "at the upper guard" : "at the lower guard";
+    first_time = !high;
+    now_act = 0;
+    now_call = "start";
+    length = take_u32(&r);
+    if (length > LONGEST)
+        bad_input("a memory length is too great");
+    memory.len = 0;
+    memset(expected, 0, length);
+    change(&r, expected, length);
+    place(&memory, length, high);
+    if (length != 0)
+        memcpy(memory.at, expected, length);
+    place(&state, STATE, high);
+    place(&count, sizeof(uint64_t), high);
+    memcpy(state.at, take(&r, STATE), STATE);
+    acts = take_u32(&r);
+    for (i = 0; i < acts; i++) {
+        unsigned kind = *take(&r, 1);
+        uint32_t words[3] = {0, 0, 0};
+        uint64_t n = 0;
+        int k;
+        now_act = i;
+        now_call = kind < 7 ? names[kind] : "?";
+        switch (kind) {
+        case 0:
+            for (k = 0; k < 3; k++)
+                words[k] = take_u32(&r);
+            break;
+        case 1: break;
+        case 2: n = take_u64(&r); break;
+        case 3: words[0] = take_u32(&r); break;
+        case 4: memcpy(state.at, take(&r, STATE), STATE); break;
+        case 5:
+            change(&r, expected, memory.len);
+            if (memory.len != 0)
+                memcpy(memory.at, expected, memory.len);
+            break;
+        case 6: lend(take_u32(&r), high); break;
+        default: bad_input("an act of no kind");
+        }
+        if (kind < 4 && !call(&r, kind, words, n))
+            return 0;
+        if (!helpers())
+            return 0;
+    }
+    if (r.at != r.end)
+        bad_input("a sequence is longer than its contents");
+    return 1;
+}
+
+/* A null pointer with length 0, of which document 01 says number 1. */
+static int null_memory(int high)
+{
+    uint8_t zero[STATE], any[STATE];
+    uint64_t a;
+    size_t i;
+    int ok;
+    now_place = high ? "at the upper guard" : "at the lower guard";
+    now_call = "calls with a null pointer";
+    place(&state, STATE, high);
+    place(&count, sizeof(uint64_t), high);
+    place(&memory, 0, high);
+    for (i = 0; i < STATE; i++)
+        any[i] = (uint8_t)(3 * i + 1);
+    memset(zero, 0, STATE);
+    midesk_set_word(zero, MIDESK_MARK, MIDESK_REFUSED_LENGTH);
+    memcpy(state.at, any, STATE);
+    ok = same_number("fresh", midesk_fresh(NULL, 0, 0, 0, 0, state.at), MIDESK_REFUSED_LENGTH)
+        && same_bytes("state of fresh", state.at, zero, STATE);
+    memcpy(state.at, any, STATE);
+    a = midesk_step(NULL, 0, state.at);
+    ok = ok && same_number("kind of step", midesk_kind(a), MIDESK_REFUSED)
+        && same_number("number of step", midesk_number(a), MIDESK_REFUSED_LENGTH);
+    for (i = 0; ok && i < 3; i++) {
+        memset(count.at, FILL, sizeof a);
+        a = midesk_run(NULL, 0, state.at, (uint64_t)i, (uint64_t *)(void *)count.at);
+        ok = same_number("run", a, MIDESK_REFUSED_LENGTH) && same_number("steps of run", get_count(), 0);
+    }
+    return ok && same_bytes("state", state.at, any, STATE) && all_kept();
+}
+
+/* Lengths that would be allowed if only their low 32 bits counted. */
+static int long_memory(void)
+{
+    static const size_t lengths[] = {((size_t)1 << 32) + 1024, ((size_t)1 << 32) + 512, (size_t)1 << 32};
+    uint8_t fresh[STATE], zero[STATE], least[512] = {0};
+    const int how = MAP_PRIVATE | MAP_ANONYMOUS | MAP_NORESERVE;
+    uint8_t *mem = (uint8_t *)mmap(NULL, lengths[0], PROT_READ | PROT_WRITE, how, -1, 0);
+    size_t i;
+    int ok = 1;
+    if (mem == (uint8_t *)MAP_FAILED) {
+        fprintf(stderr, "compare: no memory of more than 4 GiB can be reserved; those lengths are left out\n");
+        return 1;
+    }
+    now_call = "calls with more than 4 GiB";
+    place(&state, STATE, 1);
+    place(&count, sizeof(uint64_t), 1);
+    memset(zero, 0, STATE);
+    midesk_set_word(zero, MIDESK_MARK, MIDESK_REFUSED_LENGTH);
+    ok = same_number("fresh", midesk_fresh(least, sizeof least, 0, 256, 0, fresh), MIDESK_OK);
+    for (i = 0; ok && i < sizeof lengths / sizeof lengths[0]; i++) {
+        uint64_t a;
+        ok = same_number("fresh", midesk_fresh(mem, lengths[i], 0, 256, 0, state.at), MIDESK_REFUSED_LENGTH)
+            && same_bytes("state of fresh", state.at, zero, STATE);
+        memcpy(state.at, fresh, STATE);
+        a = midesk_step(mem, lengths[i], state.at);
+        ok = ok && same_number("kind of step", midesk_kind(a), MIDESK_REFUSED)
+            && same_number("number of step", midesk_number(a), MIDESK_REFUSED_LENGTH);
+        a = midesk_run(mem, lengths[i], state.at, 1, (uint64_t *)(void *)count.at);
+        ok = ok && same_number("run", a, MIDESK_REFUSED_LENGTH) && same_number("steps of run", get_count(), 0)
+            && same_bytes("state", state.at, fresh, STATE);
+    }
+    munmap(mem, lengths[0]);
+    return ok && all_kept();
+}
+
+static void catch_signals(void)
+{
+    struct sigaction s;
+    memset(&s, 0, sizeof s);
+    sigemptyset(&s.sa_mask);
+    s.sa_sigaction = on_touch;
+    s.sa_flags = SA_SIGINFO;
+    sigaction(SIGSEGV, &s, NULL);
+    sigaction(SIGBUS, &s, NULL);
+    s.sa_flags = 0;
+    s.sa_handler = on_alarm;
+    sigaction(SIGALRM, &s, NULL);
+}
+
+int main(void)
+{
+    uint8_t head[12], end[4], word[4];
+    uint8_t *bytes = NULL;
+    size_t room = 0;
+    uint32_t sequences, i;
+    int high;
+    if ((size_t)sysconf(_SC_PAGESIZE) != PAGE) {
+        fprintf(stderr, "compare: pages of 4096 bytes are needed\n");
+        return 2;
+    }
+    expected = (uint8_t *)malloc(LONGEST);
+    after = (uint8_t *)malloc(LONGEST);
+    if (expected == NULL || after == NULL) {
+        perror("compare: malloc");
+        return 2;
+    }
+    memset(filled, FILL, sizeof filled);
+    reserve(&memory, LONGEST);
+    reserve(&state, STATE);
+    reserve(&count, sizeof(uint64_t));
+    catch_signals();
+    strcpy(now_family, "lengths");
+    for (high = 0; high < 2; high++)
+        differ += !null_memory(high);
+    differ += !long_memory();
+    get(head, sizeof head);
+    if (memcmp(head, "MISEQ001", 8) != 0)
+        bad_input("it does not begin with MISEQ001");
+    sequences = midesk_word(head, 8);
+    for (i = 0; i < sequences; i++) {
+        struct reader r;
+        size_t length, name;
+        int ok = 1;
+        now_sequence = i;
+        now_act = 0;
+        get(word, 4);
+        length = midesk_word(word, 0);
+        if (length > room) {
+            free(bytes);
+            room = 2 * length;
+            bytes = (uint8_t *)malloc(room);
+            if (bytes == NULL)
+                bad_input("a sequence is too long");
+        }
+        get(bytes, length);
+        r.at = bytes;
+        r.end = bytes + length;
+        name = *take(&r, 1);
+        memset(now_family, 0, sizeof now_family);
+        memcpy(now_family, take(&r, name), name);
+        alarm(SECONDS);
+        for (high = 0; ok && high < 2; high++)
+            ok = play(r, high);
+        differ += !ok;
+    }
+    alarm(0);
+    get(end, sizeof end);
+    if (memcmp(end, "END.", 4) != 0)
+        bad_input("it does not end with END.");
+    if (getchar() != EOF)
+        bad_input("it goes on after its end");
+    printf("%lu sequences, %lu calls at each guard, %lu of them refused, %lu runs also made as %lu steps: %lu differ\n",
+           (unsigned long)sequences, calls, refused, runs, run_steps, differ);
+    free(bytes);
+    free(expected);
+    free(after);
+    return differ == 0 ? 0 : 1;
+}

@@ -1,0 +1,214 @@
+/*
+ * midesk.h: the MI desk, a small computer, for programs in C99 and C++.
+ *
+ * A desk runs machine code for MI in a memory that you lend it for the length of each call. Its state is an array of
+ * 90 bytes that you hold; the library keeps nothing between calls, allocates nothing and has no other input or output.
+ * Any number of desks may be used at once, in any number of threads.
+ *
+ *     #include "midesk.h"
+ *
+ *     static uint8_t memory[1024];             // 0: system block, 256: control block, 512: the program
+ *     uint8_t desk[MIDESK_STATE_BYTES];
+ *     uint64_t steps;
+ *     memory[512] = 0x00;                      // HALT
+ *     if (midesk_fresh(memory, sizeof memory, 0, 256, 512, desk) == MIDESK_OK
+ *         && midesk_run(memory, sizeof memory, desk, 1000, &steps) == MIDESK_OK
+ *         && !midesk_running(desk))
+ *         printf("stopped with %u after %u steps\n", (unsigned)midesk_mark(desk), (unsigned)steps);
+ *
+ * Link it with target/staticlib/libmidesk.a.
+ *
+ * What you must see to, since no call can check it:
+ *   - mem points to len bytes that may be read and, but for midesk_fresh, written; where len is 0, any pointer will do,
+ *     a null pointer too;
+ *   - state points to 90 bytes that may be read and written, steps to a uint64_t that may be written;
+ *   - these do not overlap, and no other thread uses them during the call.
+ * Nothing else: every content of memory and state, every length and every number is answered. What cannot be used is
+ * refused by a number from 1 to 7, with state and memory as they were.
+ *
+ * A number ending in h is hexadecimal. "Document 01" is the paper that defines the desk.
+ */
+#ifndef MIDESK_H
+#define MIDESK_H
+
+#include <stddef.h>
+#include <stdint.h>
+
+#ifdef __cplusplus
+extern "C" {
+#endif
+
+/*
+ * The state: 90 bytes, each value highest byte first. Every content is a state, and two different contents are two
+ * different states. Copy it, store it and compare it as you like.
+ */
+#define MIDESK_STATE_BYTES 90
+
+/* Where its values stand. */
+#define MIDESK_REGISTER(i) (4 * (size_t)(i)) /* R0 to R15, i from 0 to 15, four bytes each */
+#define MIDESK_STATUS 64                     /* status word, four bytes */
+#define MIDESK_MAP_BASE 68                   /* real address of the map, four bytes */
+#define MIDESK_MAP_LENGTH 72                 /* its length in entries of four bytes, four bytes */
+#define MIDESK_SYSTEM_BLOCK 76               /* real address of the system block (256 bytes), four bytes */
+#define MIDESK_CONTROL_BLOCK 80              /* real address of the control block (80 bytes), four bytes */
+#define MIDESK_MARK 84                       /* MIDESK_RUNNING, or the number that it stopped with, four bytes */
+#define MIDESK_PENDING 88                    /* pending set: bit of value 2^k for level k, two bytes */
+
+#define MIDESK_RUNNING 0xFFFFFFFFu /* the mark of a desk that runs */
+
+/* Registers with a meaning of their own. */
+#define MIDESK_SP 14 /* stack pointer */
+#define MIDESK_PC 15 /* address of the next command */
+
+/* The status word; its other bits are 0. */
+#define MIDESK_KERNEL 0x80000000u /* kernel mode: addresses are real and the map is not used */
+#define MIDESK_LEVEL 0xF0u        /* the level 0 to 15, times 16 */
+#define MIDESK_N 8u
+#define MIDESK_Z 4u
+#define MIDESK_V 2u
+#define MIDESK_C 1u
+
+/* Lengths of memory that are allowed: multiples of MIDESK_FRAME_BYTES up to MIDESK_MAX_MEMORY, but not 0. */
+#define MIDESK_FRAME_BYTES 512
+#define MIDESK_MAX_MEMORY 16777216
+
+/* Answer of midesk_fresh, midesk_run and midesk_request: 0 where carried out, else why it was refused. */
+#define MIDESK_OK 0u
+#define MIDESK_REFUSED_LENGTH 1u        /* the memory length is not allowed */
+#define MIDESK_REFUSED_SYSTEM_BLOCK 2u  /* the system block's address is no multiple of 4, or the block does not fit */
+#define MIDESK_REFUSED_CONTROL_BLOCK 3u /* the control block's address is no multiple of 4, or the block does not fit */
+#define MIDESK_REFUSED_MAP 4u           /* the map base is no multiple of 4, or the map ends past the memory */
+#define MIDESK_REFUSED_STATUS 5u        /* status has an undefined bit, or the pending set has level 0's bit */
+#define MIDESK_REFUSED_LEVEL 6u         /* a requested level is 0 or above 15 */
+#define MIDESK_REFUSED_STOPPED 7u       /* a step or run was wanted of a stopped desk */
+
+/* The kinds of midesk_step's answer: midesk_kind(answer). */
+#define MIDESK_DONE 0u    /* a command was carried out; the number is 0 */
+#define MIDESK_REFUSED 1u /* refused; the number is a MIDESK_REFUSED_... above */
+#define MIDESK_ENTERED 2u /* the kernel was entered; the number is the cause */
+#define MIDESK_STOPPED 3u /* the desk has stopped; the number is the one that it stopped with */
+
+/* Alarms. In user mode each is the cause of a kernel entry, in kernel mode the number of a stop. */
+#define MIDESK_ALARM_ADDRESS 8u     /* the page is at or past the map length, or in kernel mode the byte lies
+                                       past the memory */
+#define MIDESK_ALARM_ABSENT 9u      /* the map's entry is absent */
+#define MIDESK_ALARM_ENTRY 10u      /* a present entry has a forbidden bit, or its frame lies past the memory */
+#define MIDESK_ALARM_READ_ONLY 11u  /* a write meets an entry that is not writable */
+#define MIDESK_ALARM_COMMAND 12u    /* the command byte is unknown */
+#define MIDESK_ALARM_MODE 13u       /* HALT or RESUME in user mode, or a system call in kernel mode */
+#define MIDESK_ALARM_OPERAND 14u    /* an operand breaks a form rule, or RESUME's block cannot be used */
+#define MIDESK_ALARM_DIVIDE 15u     /* DIV by zero */
+
+/* Other causes of a kernel entry. */
+#define MIDESK_CAUSE_SYSTEM_CALL 1u
+#define MIDESK_CAUSE_INTERRUPT(level) (16u + (uint32_t)(level)) /* level 1 to 15 */
+
+/* Other numbers of a stop. */
+#define MIDESK_STOP_HALT 0u   /* the command HALT */
+#define MIDESK_STOP_ENTRY 16u /* the system block's entry holds no valid kernel status */
+
+/*
+ * Makes a fresh desk over this memory: zero registers but R15 = start, kernel mode, level 0, flags 0, no map, nothing
+ * pending, running. system and control are the real addresses of the two blocks; start is not checked. What state held
+ * before does not matter, and of the memory only the length does.
+ *
+ * Answers MIDESK_OK, or MIDESK_REFUSED_LENGTH, _SYSTEM_BLOCK or _CONTROL_BLOCK; refusing, it writes the all-zero desk
+ * stopped with that number.
+ */
+uint32_t midesk_fresh(const uint8_t *mem, size_t len, uint32_t system, uint32_t control, uint32_t start,
+                      uint8_t state[MIDESK_STATE_BYTES]);
+
+/*
+ * One step: in user mode the highest pending level above the status level is entered; otherwise one command runs.
+ * state and memory become what document 01 says.
+ *
+ * The answer is a kind and a number: take them with midesk_kind and midesk_number. Refused (MIDESK_REFUSED_LENGTH to
+ * _STATUS and _STOPPED, tried in this order), state and memory are as they were.
+ */
+uint64_t midesk_step(uint8_t *mem, size_t len, uint8_t state[MIDESK_STATE_BYTES]);
+
+/*
+ * At most n steps, fewer only where the desk stops: exactly what that many calls of midesk_step leave. Kernel entries
+ * do not end it. *steps becomes the number of steps made, the stopping one and entries included; 0 when refused. A run
+ * of 0 steps makes the same checks and changes nothing.
+ *
+ * Answers MIDESK_OK or a refusal as midesk_step has them; refused, state and memory are as they were. Look at
+ * midesk_running(state) for whether the desk has stopped, and at midesk_mark(state) for the number.
+ */
+uint32_t midesk_run(uint8_t *mem, size_t len, uint8_t state[MIDESK_STATE_BYTES], uint64_t n, uint64_t *steps);
+
+/*
+ * Requests an interrupt of a level from 1 to 15: sets its bit in the pending set, on a stopped desk too. The level is
+ * entered by a later step in user mode.
+ *
+ * Answers MIDESK_OK, MIDESK_REFUSED_STATUS or MIDESK_REFUSED_LEVEL; refused, state is as it was.
+ */
+uint32_t midesk_request(uint8_t state[MIDESK_STATE_BYTES], uint32_t level);
+
+/* The kind of midesk_step's answer: MIDESK_DONE, MIDESK_REFUSED, MIDESK_ENTERED or MIDESK_STOPPED. */
+static inline uint32_t midesk_kind(uint64_t answer)
+{
+    return (uint32_t)(answer >> 32);
+}
+
+/* The number of midesk_step's answer. */
+static inline uint32_t midesk_number(uint64_t answer)
+{
+    return (uint32_t)(answer & 0xFFFFFFFFu);
+}
+
+/* A word of the state, by its place: midesk_word(state, MIDESK_STATUS). Of a memory too. */
+static inline uint32_t midesk_word(const uint8_t *bytes, size_t at)
+{
+    return (uint32_t)bytes[at] << 24 | (uint32_t)bytes[at + 1] << 16 | (uint32_t)bytes[at + 2] << 8 | bytes[at + 3];
+}
+
+/* Puts a word into the state, by its place. Into a memory too. */
+static inline void midesk_set_word(uint8_t *bytes, size_t at, uint32_t value)
+{
+    bytes[at] = (uint8_t)(value >> 24);
+    bytes[at + 1] = (uint8_t)(value >> 16);
+    bytes[at + 2] = (uint8_t)(value >> 8);
+    bytes[at + 3] = (uint8_t)value;
+}
+
+/* R0 to R15, i from 0 to 15. */
+static inline uint32_t midesk_register(const uint8_t *state, unsigned i)
+{
+    return midesk_word(state, MIDESK_REGISTER(i));
+}
+
+static inline void midesk_set_register(uint8_t *state, unsigned i, uint32_t value)
+{
+    midesk_set_word(state, MIDESK_REGISTER(i), value);
+}
+
+/* The pending set: bit of value 2^k for level k. */
+static inline uint16_t midesk_pending(const uint8_t *state)
+{
+    return (uint16_t)((unsigned)state[MIDESK_PENDING] << 8 | state[MIDESK_PENDING + 1]);
+}
+
+static inline void midesk_set_pending(uint8_t *state, uint16_t levels)
+{
+    state[MIDESK_PENDING] = (uint8_t)(levels >> 8);
+    state[MIDESK_PENDING + 1] = (uint8_t)levels;
+}
+
+/* MIDESK_RUNNING, or the number that the desk stopped with. */
+static inline uint32_t midesk_mark(const uint8_t *state)
+{
+    return midesk_word(state, MIDESK_MARK);
+}
+
+/* Not 0 while the desk runs, 0 when it has stopped. */
+static inline int midesk_running(const uint8_t *state)
+{
+    return midesk_mark(state) == MIDESK_RUNNING;
+}
+
+#ifdef __cplusplus
+}
+#endif
+
+#endif

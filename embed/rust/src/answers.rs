@@ -1,0 +1,113 @@
+//! What the calls answer.
+
+use std::fmt;
+
+/// Why a call was refused, with document 01's numbers 1 to 7. Refused, a call has changed nothing.
+#[derive(Clone, Copy, PartialEq, Eq, Hash, Debug)]
+#[repr(u32)]
+pub enum Refusal {
+    /// The memory length is not allowed: a multiple of 512, from 512 to 16,777,216.
+    Length = 1,
+    /// The system block's address is no multiple of 4, or the block doesn't fit.
+    SystemBlock = 2,
+    /// The control block's address is no multiple of 4, or the block doesn't fit.
+    ControlBlock = 3,
+    /// The map base is no multiple of 4, or the map ends past the memory.
+    Map = 4,
+    /// Status has an undefined bit, or the pending set has level 0's bit.
+    Status = 5,
+    /// A requested level is 0 or above 15.
+    Level = 6,
+    /// A step or run was wanted of a stopped desk.
+    Stopped = 7,
+}
+
+impl Refusal {
+    /// Its number in document 01.
+    pub fn number(self) -> u32 {
+        self as u32
+    }
+
+    /// The refusal of a number from 1 to 7.
+    pub fn of(number: u32) -> Option<Refusal> {
+        use Refusal::*;
+        [Length, SystemBlock, ControlBlock, Map, Status, Level, Stopped].into_iter().find(|r| r.number() == number)
+    }
+}
+
+impl fmt::Display for Refusal {
+    fn fmt(&self, f: &mut fmt::Formatter<'_>) -> fmt::Result {
+        f.write_str(match self {
+            Refusal::Length => "the memory length is not allowed",
+            Refusal::SystemBlock => "the system block's address is no multiple of 4, or the block does not fit",
+            Refusal::ControlBlock => "the control block's address is no multiple of 4, or the block does not fit",
+            Refusal::Map => "the map base is no multiple of 4, or the map ends past the memory",
+            Refusal::Status => "the status has an undefined bit, or the pending set has level 0's bit",
+            Refusal::Level => "the requested level is 0 or above 15",
+            Refusal::Stopped => "the desk is stopped",
+        })
+    }
+}
+
+impl std::error::Error for Refusal {}
+
+/// What one step did.
+#[derive(Clone, Copy, PartialEq, Eq, Hash, Debug)]
+pub enum Event {
+    /// A command was carried out.
+    Done,
+    /// The kernel was entered, with this cause: 1 a system call, 8 to 15 an alarm, 16 + level an interrupt.
+    Entered(u32),
+    /// The desk has stopped with this number: 0 HALT, 8 to 15 an alarm in kernel mode, 16 no valid entry of the system
+    /// block.
+    Stopped(u32),
+}
+
+/// Whether a desk runs.
+#[derive(Clone, Copy, PartialEq, Eq, Hash, Debug)]
+pub enum Mark {
+    /// It runs.
+    Running,
+    /// It has stopped with this number. No desk stops with FFFFFFFFh, whose place `Running` takes in the state.
+    Stopped(u32),
+}
+
+impl Mark {
+    pub(crate) fn of(word: u32) -> Mark {
+        match word {
+            u32::MAX => Mark::Running,
+            number => Mark::Stopped(number),
+        }
+    }
+
+    pub(crate) fn word(self) -> u32 {
+        match self {
+            Mark::Running => u32::MAX,
+            Mark::Stopped(number) => number,
+        }
+    }
+}
+
+/// The answer of `fresh`, `run` and `request`.
+pub(crate) fn refused(answer: u32) -> Result<(), Refusal> {
+    match answer {
+        0 => Ok(()),
+        number => Err(refusal(number)),
+    }
+}
+
+/// The answer of `step`.
+pub(crate) fn stepped(answer: u64) -> Result<Event, Refusal> {
+    let number = answer as u32;
+    match answer >> 32 {
+        0 => Ok(Event::Done),
+        1 => Err(refusal(number)),
+        2 => Ok(Event::Entered(number)),
+        3 => Ok(Event::Stopped(number)),
+        kind => panic!("libmidesk.a does not fit this crate: a step of kind {kind}"),
+    }
+}
+
+fn refusal(number: u32) -> Refusal {
+    Refusal::of(number).unwrap_or_else(|| panic!("libmidesk.a does not fit this crate: refusal {number}"))
+}

@@ -1,0 +1,44 @@
+//! The calls of libmidesk.a: the only unsafe code of this crate.
+//!
+//! The archive asks of its caller that the pointers lead to as many bytes as said, readable and (but for `fresh`'s
+//! memory) writable, that they do not overlap, and that nobody else uses them during the call. References give all of
+//! it. Every content of the bytes and every number is answered.
+
+use crate::STATE_BYTES;
+
+mod c {
+    extern "C" {
+        pub fn midesk_fresh(mem: *const u8, len: usize, system: u32, control: u32, start: u32, state: *mut u8) -> u32;
+        pub fn midesk_step(mem: *mut u8, len: usize, state: *mut u8) -> u64;
+        pub fn midesk_run(mem: *mut u8, len: usize, state: *mut u8, n: u64, steps: *mut u64) -> u32;
+        pub fn midesk_request(state: *mut u8, level: u32) -> u32;
+    }
+}
+
+/// The number of the refusal, or 0.
+pub fn fresh(mem: &[u8], system: u32, control: u32, start: u32, state: &mut [u8; STATE_BYTES]) -> u32 {
+    // SAFETY: `mem` is `mem.len()` bytes that may be read, `state` 90 bytes that may be written; a shared and an
+    // exclusive reference do not overlap. The call only reads `mem`.
+    unsafe { c::midesk_fresh(mem.as_ptr(), mem.len(), system, control, start, state.as_mut_ptr()) }
+}
+
+/// Kind × 2^32 + number.
+pub fn step(mem: &mut [u8], state: &mut [u8; STATE_BYTES]) -> u64 {
+    // SAFETY: `mem` is `mem.len()` bytes and `state` 90 bytes that may be read and written; exclusive references do not
+    // overlap.
+    unsafe { c::midesk_step(mem.as_mut_ptr(), mem.len(), state.as_mut_ptr()) }
+}
+
+/// The number of the refusal, or 0; and the steps made.
+pub fn run(mem: &mut [u8], state: &mut [u8; STATE_BYTES], n: u64) -> (u32, u64) {
+    let mut steps = 0;
+    // SAFETY: as for `step`; `steps` is a variable of its own, eight bytes that may be written.
+    let answer = unsafe { c::midesk_run(mem.as_mut_ptr(), mem.len(), state.as_mut_ptr(), n, &mut steps) };
+    (answer, steps)
+}
+
+/// The number of the refusal, or 0.
+pub fn request(state: &mut [u8; STATE_BYTES], level: u32) -> u32 {
+    // SAFETY: `state` is 90 bytes that may be read and written.
+    unsafe { c::midesk_request(state.as_mut_ptr(), level) }
+}

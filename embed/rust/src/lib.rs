@@ -1,0 +1,243 @@
+//! The MI desk: a small computer whose every function is proved, for programs in Rust.
+//!
+//! A [`Desk`] runs machine code for MI in a memory that is lent to each call. Every memory, state and number is
+//! answered: what cannot be used is refused with a [`Refusal`], and then state and memory are as they were.
+//!
+//! ```
+//! use midesk::{Desk, Event, Mark};
+//!
+//! // System block at 0, control block at 256, the program at 512: MOVE B I 2,R0, then HALT.
+//! let mut memory = vec![0; 1024];
+//! memory[512..526].copy_from_slice(&[0x10, 1, 0, 0, 0, 0, 2, 2, 0, 0, 0, 0, 0, 0]);
+//!
+//! let mut desk = Desk::fresh(&memory, 0, 256, 512)?;
+//! assert_eq!(desk.step(&mut memory)?, Event::Done);
+//! assert_eq!(desk.register(0), 2);
+//!
+//! let steps = desk.run(&mut memory, 1000)?;
+//! assert_eq!(steps, 1);
+//! assert_eq!(desk.mark(), Mark::Stopped(midesk::numbers::HALT));
+//! # Ok::<(), midesk::Refusal>(())
+//! ```
+//!
+//! The crate links `libmidesk.a`, which `embed/build` of the repository makes. "Document 01" is the paper that defines
+//! the desk.
+#![deny(missing_docs)]
+#![deny(unsafe_code)]
+
+mod answers;
+#[allow(unsafe_code)]
+mod ffi;
+pub mod numbers;
+
+pub use answers::{Event, Mark, Refusal};
+
+use std::fmt;
+
+/// Bytes of a desk's state.
+pub const STATE_BYTES: usize = 90;
+
+const STATUS: usize = 64;
+const MAP_BASE: usize = 68;
+const MAP_LENGTH: usize = 72;
+const SYSTEM_BLOCK: usize = 76;
+const CONTROL_BLOCK: usize = 80;
+const MARK: usize = 84;
+const PENDING: usize = 88;
+
+/// A desk: its whole state, held as 90 bytes. The memory is lent to each call and is no part of it.
+///
+/// Two desks are equal when their states are. Every content of the 90 bytes is a state.
+#[derive(Clone, PartialEq, Eq, Hash)]
+pub struct Desk {
+    state: [u8; STATE_BYTES],
+}
+
+impl Desk {
+    /// A fresh desk over this memory: zero registers but R15 = `start`, kernel mode, level 0, no map, nothing pending,
+    /// running. `system` and `control` are the real addresses of the system block (256 bytes) and the control block (80
+    /// bytes). Of the memory only the length matters; `start` is not checked.
+    ///
+    /// # Errors
+    ///
+    /// [`Refusal::Length`], [`Refusal::SystemBlock`] or [`Refusal::ControlBlock`].
+    pub fn fresh(memory: &[u8], system: u32, control: u32, start: u32) -> Result<Desk, Refusal> {
+        let mut state = [0; STATE_BYTES];
+        answers::refused(ffi::fresh(memory, system, control, start, &mut state))?;
+        Ok(Desk { state })
+    }
+
+    /// One step: an interrupt's entry, where one is due, or one command.
+    ///
+    /// # Errors
+    ///
+    /// [`Refusal::Length`] to [`Refusal::Status`] or [`Refusal::Stopped`]; desk and memory are as they were.
+    pub fn step(&mut self, memory: &mut [u8]) -> Result<Event, Refusal> {
+        answers::stepped(ffi::step(memory, &mut self.state))
+    }
+
+    /// At most `n` steps, fewer only where the desk stops; answers how many. Kernel entries do not end it.
+    ///
+    /// # Errors
+    ///
+    /// As [`Desk::step`]; a run of 0 steps is refused too.
+    pub fn run(&mut self, memory: &mut [u8], n: u64) -> Result<u64, Refusal> {
+        let (answer, steps) = ffi::run(memory, &mut self.state, n);
+        answers::refused(answer)?;
+        Ok(steps)
+    }
+
+    /// Requests an interrupt of a level from 1 to 15, of a stopped desk too. It is entered by a later step in user mode.
+    ///
+    /// # Errors
+    ///
+    /// [`Refusal::Status`] or [`Refusal::Level`]; the desk is as it was.
+    pub fn request(&mut self, level: u32) -> Result<(), Refusal> {
+        answers::refused(ffi::request(&mut self.state, level))
+    }
+
+    /// The desk with this state. Every content is one; what cannot be used is refused by the calls.
+    ///
+    /// Each value stands highest byte first: R0 to R15, status, map base, map length, system block, control block, the
+    /// number that the desk stopped with (FFFFFFFFh while it runs), four bytes each; the pending set, two bytes.
+    pub fn from_bytes(state: [u8; STATE_BYTES]) -> Desk {
+        Desk { state }
+    }
+
+    /// The state, as [`Desk::from_bytes`] takes it.
+    pub fn to_bytes(&self) -> [u8; STATE_BYTES] {
+        self.state
+    }
+
+    /// A register.
+    ///
+    /// # Panics
+    ///
+    /// Where `i` is above 15.
+    pub fn register(&self, i: usize) -> u32 {
+        assert!(i < 16, "a desk has the registers 0 to 15");
+        self.word(4 * i)
+    }
+
+    /// R0 to R15. R14 is the stack pointer, R15 the address of the next command.
+    pub fn registers(&self) -> [u32; 16] {
+        std::array::from_fn(|i| self.word(4 * i))
+    }
+
+    /// The status word: mode, level and flags (see [`numbers`]).
+    pub fn status(&self) -> u32 {
+        self.word(STATUS)
+    }
+
+    /// Whether the status word says kernel mode.
+    pub fn is_kernel(&self) -> bool {
+        self.status() & numbers::KERNEL != 0
+    }
+
+    /// The level of the status word, 0 to 15.
+    pub fn level(&self) -> u32 {
+        (self.status() & numbers::LEVEL) >> 4
+    }
+
+    /// The pending set: the bit of value 2^k stands for level k.
+    pub fn pending(&self) -> u16 {
+        u16::from_be_bytes([self.state[PENDING], self.state[PENDING + 1]])
+    }
+
+    /// The real address of the map.
+    pub fn map_base(&self) -> u32 {
+        self.word(MAP_BASE)
+    }
+
+    /// The map's length in entries of four bytes.
+    pub fn map_length(&self) -> u32 {
+        self.word(MAP_LENGTH)
+    }
+
+    /// The real address of the system block.
+    pub fn system_block(&self) -> u32 {
+        self.word(SYSTEM_BLOCK)
+    }
+
+    /// The real address of the control block.
+    pub fn control_block(&self) -> u32 {
+        self.word(CONTROL_BLOCK)
+    }
+
+    /// Running, or stopped with a number.
+    pub fn mark(&self) -> Mark {
+        Mark::of(self.word(MARK))
+    }
+
+    /// Whether the desk runs.
+    pub fn is_running(&self) -> bool {
+        self.mark() == Mark::Running
+    }
+
+    /// Puts a register.
+    ///
+    /// # Panics
+    ///
+    /// Where `i` is above 15.
+    pub fn set_register(&mut self, i: usize, value: u32) {
+        assert!(i < 16, "a desk has the registers 0 to 15");
+        self.put(4 * i, value);
+    }
+
+    /// Puts the status word.
+    pub fn set_status(&mut self, status: u32) {
+        self.put(STATUS, status);
+    }
+
+    /// Puts the pending set.
+    pub fn set_pending(&mut self, levels: u16) {
+        self.state[PENDING..].copy_from_slice(&levels.to_be_bytes());
+    }
+
+    /// Puts the map: its real address and its length in entries.
+    pub fn set_map(&mut self, base: u32, length: u32) {
+        self.put(MAP_BASE, base);
+        self.put(MAP_LENGTH, length);
+    }
+
+    /// Puts the real addresses of system block and control block.
+    pub fn set_blocks(&mut self, system: u32, control: u32) {
+        self.put(SYSTEM_BLOCK, system);
+        self.put(CONTROL_BLOCK, control);
+    }
+
+    /// Puts the mark: `Mark::Running` makes a stopped desk go on.
+    pub fn set_mark(&mut self, mark: Mark) {
+        self.put(MARK, mark.word());
+    }
+
+    fn word(&self, at: usize) -> u32 {
+        let b = &self.state;
+        u32::from_be_bytes([b[at], b[at + 1], b[at + 2], b[at + 3]])
+    }
+
+    fn put(&mut self, at: usize, value: u32) {
+        self.state[at..at + 4].copy_from_slice(&value.to_be_bytes());
+    }
+}
+
+impl From<[u8; STATE_BYTES]> for Desk {
+    fn from(state: [u8; STATE_BYTES]) -> Desk {
+        Desk::from_bytes(state)
+    }
+}
+
+impl fmt::Debug for Desk {
+    fn fmt(&self, f: &mut fmt::Formatter<'_>) -> fmt::Result {
+        f.debug_struct("Desk")
+            .field("registers", &format_args!("{:X?}", self.registers()))
+            .field("status", &format_args!("{:#010X}", self.status()))
+            .field("pending", &format_args!("{:#06X}", self.pending()))
+            .field("map_base", &self.map_base())
+            .field("map_length", &self.map_length())
+            .field("system_block", &self.system_block())
+            .field("control_block", &self.control_block())
+            .field("mark", &self.mark())
+            .finish()
+    }
+}

@@ -1,0 +1,219 @@
+//! Each function by itself.
+
+use midesk::{numbers, Desk, Event, Mark, Refusal, STATE_BYTES};
+
+/// System block at 0, control block at 256, code at 512. Every entry of the system block leads to 768 in kernel mode.
+fn memory(code: &[u8]) -> Vec<u8> {
+    let mut memory = vec![0; 1024];
+    for cause in 0..32 {
+        memory[8 * cause..8 * cause + 4].copy_from_slice(&768u32.to_be_bytes());
+        memory[8 * cause + 4..8 * cause + 8].copy_from_slice(&numbers::KERNEL.to_be_bytes());
+    }
+    memory[512..512 + code.len()].copy_from_slice(code);
+    memory
+}
+
+/// A desk in user mode at address 0, whose page 0 is frame 1.
+fn user(memory: &mut [u8]) -> Desk {
+    let mut desk = Desk::fresh(memory, 0, 256, 0).unwrap();
+    memory[336..340].copy_from_slice(&0xC000_0001u32.to_be_bytes());
+    desk.set_status(0);
+    desk.set_map(336, 1);
+    desk
+}
+
+#[test]
+fn fresh_is_as_the_paper_says() {
+    let memory = memory(&[]);
+    let desk = Desk::fresh(&memory, 4, 260, 0x1234_5678).unwrap();
+    let mut registers = [0; 16];
+    registers[15] = 0x1234_5678;
+    assert_eq!(desk.registers(), registers);
+    assert_eq!(desk.status(), 0x8000_0000);
+    assert!(desk.is_kernel() && desk.is_running());
+    assert_eq!((desk.level(), desk.pending()), (0, 0));
+    assert_eq!((desk.map_base(), desk.map_length()), (0, 0));
+    assert_eq!((desk.system_block(), desk.control_block()), (4, 260));
+    assert_eq!(desk.mark(), Mark::Running);
+}
+
+#[test]
+fn fresh_refuses_1_to_3() {
+    let memory = vec![0; 1024];
+    assert_eq!(Desk::fresh(&[], 0, 0, 0), Err(Refusal::Length));
+    assert_eq!(Desk::fresh(&memory[..513], 0, 0, 0), Err(Refusal::Length));
+    assert_eq!(Desk::fresh(&memory, 1, 256, 0), Err(Refusal::SystemBlock));
+    assert_eq!(Desk::fresh(&memory, 772, 256, 0), Err(Refusal::SystemBlock));
+    assert!(Desk::fresh(&memory, 768, 944, 0).is_ok());
+    assert_eq!(Desk::fresh(&memory, 0, 2, 0), Err(Refusal::ControlBlock));
+    assert_eq!(Desk::fresh(&memory, 0, 948, 0), Err(Refusal::ControlBlock));
+    assert_eq!(Desk::fresh(&memory, 0, u32::MAX - 3, 0), Err(Refusal::ControlBlock));
+}
+
+#[test]
+fn the_least_and_the_greatest_memory() {
+    assert!(Desk::fresh(&[0; 512], 0, 256, 0).is_ok());
+    let mut memory = vec![0; 16_777_216];
+    let mut desk = Desk::fresh(&memory, 0, 256, 16_777_215).unwrap();
+    assert_eq!(desk.step(&mut memory), Ok(Event::Stopped(numbers::HALT)));
+    memory.extend([0; 512]);
+    assert_eq!(Desk::fresh(&memory, 0, 256, 0), Err(Refusal::Length));
+}
+
+#[test]
+fn a_step_is_done_enters_or_stops() {
+    // MOVE B I 2,R0, then HALT, then an unknown byte.
+    let code = [0x10, 1, 0, 0, 0, 0, 2, 2, 0, 0, 0, 0, 0, 0x00, 0xFF];
+    let mut kernel = memory(&code);
+    let mut desk = Desk::fresh(&kernel, 0, 256, 512).unwrap();
+    assert_eq!(desk.step(&mut kernel), Ok(Event::Done));
+    assert_eq!((desk.register(0), desk.register(15)), (2, 525));
+    assert_eq!(desk.step(&mut kernel), Ok(Event::Stopped(numbers::HALT)));
+    assert_eq!(desk.mark(), Mark::Stopped(numbers::HALT));
+    assert_eq!(desk.step(&mut kernel), Err(Refusal::Stopped));
+    desk.set_mark(Mark::Running);
+    assert_eq!(desk.step(&mut kernel), Ok(Event::Stopped(numbers::COMMAND)));
+
+    let mut shared = memory(&code);
+    let mut desk = user(&mut shared);
+    assert_eq!(desk.step(&mut shared), Ok(Event::Done));
+    assert_eq!(desk.step(&mut shared), Ok(Event::Entered(numbers::MODE)));
+    assert!(desk.is_kernel());
+    assert_eq!(desk.register(15), 768);
+    // Saved R15: the command's own address.
+    assert_eq!(shared[256 + 60..256 + 64], [0, 0, 0, 13]);
+}
+
+#[test]
+fn stops_with_16_where_the_entry_is_not_valid() {
+    let mut shared = memory(&[0xFF]);
+    let mut desk = user(&mut shared);
+    shared[8 * 12 + 4] = 0;
+    assert_eq!(desk.step(&mut shared), Ok(Event::Stopped(numbers::SYSTEM_ENTRY)));
+}
+
+#[test]
+fn a_run_counts_its_steps() {
+    // CLEAR B R1 three times, then HALT.
+    let clear = [0x14, 2, 0x10, 0, 0, 0, 0];
+    let code = [clear.as_slice(), &clear, &clear, &[0]].concat();
+    let mut memory = memory(&code);
+    let mut desk = Desk::fresh(&memory, 0, 256, 512).unwrap();
+    assert_eq!(desk.run(&mut memory, 0), Ok(0));
+    assert_eq!(desk.run(&mut memory, 2), Ok(2));
+    assert!(desk.is_running());
+    assert_eq!(desk.status(), numbers::KERNEL | numbers::Z);
+    assert_eq!(desk.run(&mut memory, u64::MAX), Ok(2));
+    assert_eq!(desk.mark(), Mark::Stopped(0));
+    assert_eq!(desk.run(&mut memory, 0), Err(Refusal::Stopped));
+    assert_eq!(desk.run(&mut memory, 1), Err(Refusal::Stopped));
+}
+
+#[test]
+fn a_requested_level_is_entered_in_user_mode() {
+    let mut shared = memory(&[0x70, 0, 0, 0, 0, 0, 0]);
+    let mut desk = user(&mut shared);
+    desk.set_status(0x30);
+    assert_eq!(desk.request(3), Ok(()));
+    assert_eq!(desk.request(5), Ok(()));
+    assert_eq!(desk.pending(), 1 << 3 | 1 << 5);
+    assert_eq!(desk.step(&mut shared), Ok(Event::Entered(numbers::interrupt(5))));
+    assert_eq!(desk.pending(), 1 << 3);
+    // The saved status and the argument.
+    assert_eq!(shared[256 + 64..256 + 72], [0, 0, 0, 0x30, 0, 0, 0, 5]);
+}
+
+#[test]
+fn request_refuses_5_and_6() {
+    let mut desk = Desk::fresh(&[0; 512], 0, 256, 0).unwrap();
+    for level in [0, 16, 17, 0x1_0001, u32::MAX] {
+        assert_eq!(desk.request(level), Err(Refusal::Level));
+    }
+    desk.set_pending(1);
+    assert_eq!(desk.request(1), Err(Refusal::Status));
+    desk.set_pending(0);
+    desk.set_status(0x100);
+    assert_eq!(desk.request(1), Err(Refusal::Status));
+    // Of a stopped desk too.
+    desk.set_status(0);
+    desk.set_mark(Mark::Stopped(8));
+    assert_eq!(desk.request(15), Ok(()));
+    assert_eq!(desk.pending(), 0x8000);
+}
+
+#[test]
+fn refused_calls_change_nothing() {
+    type Spoil = fn(&mut Desk);
+    let spoils: [(Spoil, Refusal); 6] = [
+        (|desk| desk.set_blocks(2, 256), Refusal::SystemBlock),
+        (|desk| desk.set_blocks(0, 948), Refusal::ControlBlock),
+        (|desk| desk.set_map(1, 0), Refusal::Map),
+        (|desk| desk.set_map(0, 0x4000_0000), Refusal::Map),
+        (|desk| desk.set_pending(3), Refusal::Status),
+        (|desk| desk.set_mark(Mark::Stopped(16)), Refusal::Stopped),
+    ];
+    for (spoil, refusal) in spoils {
+        let mut memory = memory(&[0x14, 2, 0x10, 0, 0, 0, 0]);
+        let mut desk = Desk::fresh(&memory, 0, 256, 512).unwrap();
+        spoil(&mut desk);
+        let (before, bytes) = (desk.clone(), memory.clone());
+        assert_eq!(desk.step(&mut memory), Err(refusal));
+        assert_eq!(desk.run(&mut memory, 5), Err(refusal));
+        assert_eq!(desk.run(&mut memory, 0), Err(refusal));
+        assert_eq!(desk.step(&mut memory[..511]), Err(Refusal::Length));
+        assert_eq!(desk.step(&mut []), Err(Refusal::Length));
+        assert_eq!((desk, memory), (before, bytes));
+    }
+}
+
+#[test]
+fn bytes_are_as_documented() {
+    let bytes: [u8; STATE_BYTES] = std::array::from_fn(|i| i as u8 + 1);
+    let desk = Desk::from_bytes(bytes);
+    assert_eq!(desk.to_bytes(), bytes);
+    assert_eq!(Desk::from(bytes), desk);
+    assert_eq!(desk.register(0), 0x0102_0304);
+    assert_eq!(desk.register(15), 0x3D3E_3F40);
+    assert_eq!(desk.status(), 0x4142_4344);
+    assert_eq!((desk.map_base(), desk.map_length()), (0x4546_4748, 0x494A_4B4C));
+    assert_eq!((desk.system_block(), desk.control_block()), (0x4D4E_4F50, 0x5152_5354));
+    assert_eq!(desk.mark(), Mark::Stopped(0x5556_5758));
+    assert_eq!(desk.pending(), 0x595A);
+    // The same by the setters.
+    let mut other = Desk::from_bytes([0; STATE_BYTES]);
+    for i in 0..16 {
+        other.set_register(i, desk.register(i));
+    }
+    other.set_status(desk.status());
+    other.set_map(desk.map_base(), desk.map_length());
+    other.set_blocks(desk.system_block(), desk.control_block());
+    other.set_mark(desk.mark());
+    other.set_pending(desk.pending());
+    assert_eq!(other, desk);
+    other.set_mark(Mark::Running);
+    assert_eq!(other.to_bytes()[84..88], [0xFF; 4]);
+    assert!(other.is_running());
+}
+
+#[test]
+fn refusals_have_their_numbers() {
+    for number in 1..8 {
+        assert_eq!(Refusal::of(number).map(Refusal::number), Some(number));
+    }
+    assert_eq!((Refusal::of(0), Refusal::of(8)), (None, None));
+    assert_eq!(Refusal::Stopped.to_string(), "the desk is stopped");
+}
+
+#[test]
+#[should_panic(expected = "registers 0 to 15")]
+fn there_is_no_register_16() {
+    Desk::from_bytes([0; STATE_BYTES]).register(16);
+}
+
+#[test]
+fn desks_can_move_between_threads() {
+    let mut memory = memory(&[0]);
+    let mut desk = Desk::fresh(&memory, 0, 256, 512).unwrap();
+    let stopped = std::thread::spawn(move || desk.run(&mut memory, 9).map(|steps| (steps, desk.mark())));
+    assert_eq!(stopped.join().unwrap(), Ok((1, Mark::Stopped(0))));
+}

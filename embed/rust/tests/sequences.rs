@@ -1,0 +1,137 @@
+//! The desk against the model, in one process: the generator's cases and random sequences of calls, valid and damaged.
+//! MIDESK_SEED and MIDESK_COUNT choose other random sequences.
+
+use midesk::{Desk, Event};
+use model::sequences::{random, Act, Sequence};
+
+const BESIDE: usize = 64;
+const FILL: u8 = 0xA5;
+
+/// A memory with filled bytes before and after it.
+struct Lent {
+    bytes: Vec<u8>,
+    length: usize,
+}
+
+impl Lent {
+    fn new(memory: &[u8]) -> Lent {
+        let mut bytes = vec![FILL; memory.len() + 2 * BESIDE];
+        bytes[BESIDE..BESIDE + memory.len()].copy_from_slice(memory);
+        Lent { bytes, length: memory.len() }
+    }
+
+    fn memory(&mut self) -> &mut [u8] {
+        &mut self.bytes[BESIDE..BESIDE + self.length]
+    }
+
+    fn untouched(&self) -> bool {
+        let (before, after) = (&self.bytes[..BESIDE], &self.bytes[BESIDE + self.length..]);
+        before.iter().chain(after).all(|byte| *byte == FILL)
+    }
+}
+
+fn step_number(answer: Result<Event, midesk::Refusal>) -> u64 {
+    let (kind, number) = match answer {
+        Ok(Event::Done) => (0, 0),
+        Err(refusal) => (1, refusal.number()),
+        Ok(Event::Entered(cause)) => (2, cause),
+        Ok(Event::Stopped(number)) => (3, number),
+    };
+    kind << 32 | u64::from(number)
+}
+
+fn refusal_number<T>(answer: &Result<T, midesk::Refusal>) -> u64 {
+    answer.as_ref().map_or_else(|refusal| u64::from(refusal.number()), |_| 0)
+}
+
+/// Replays a sequence; `Err` says where it differs.
+fn replay(sequence: &Sequence) -> Result<(), String> {
+    let mut expected = sequence.memory.clone();
+    let mut lent = Lent::new(&expected);
+    let mut desk = Desk::from_bytes(sequence.state);
+    for (i, (act, left)) in sequence.acts.iter().enumerate() {
+        let mut steps = 0;
+        let answer = match act {
+            Act::Fresh { system, control, start } => {
+                let made = Desk::fresh(lent.memory(), *system, *control, *start);
+                let answer = refusal_number(&made);
+                // Refused there is no desk; the model's is all zero, stopped with the number.
+                desk = made.unwrap_or_else(|_| Desk::from_bytes(left.as_ref().unwrap().state));
+                answer
+            }
+            Act::Step => step_number(desk.step(lent.memory())),
+            Act::Run(n) => {
+                let answer = desk.run(lent.memory(), *n);
+                steps = answer.unwrap_or(0);
+                refusal_number(&answer)
+            }
+            Act::Request(level) => refusal_number(&desk.request(*level)),
+            Act::State(bytes) => {
+                desk = Desk::from_bytes(*bytes);
+                continue;
+            }
+            Act::Memory { at, bytes } => {
+                expected[*at as usize..][..bytes.len()].copy_from_slice(bytes);
+                lent.memory()[*at as usize..][..bytes.len()].copy_from_slice(bytes);
+                continue;
+            }
+            Act::Length(length) => {
+                expected.resize(*length as usize, 0);
+                lent = Lent::new(&expected);
+                continue;
+            }
+        };
+        let left = left.as_ref().expect("a call leaves something");
+        for change in &left.changes {
+            expected[change.at as usize..][..change.bytes.len()].copy_from_slice(&change.bytes);
+        }
+        let what = if answer != left.answer {
+            format!("answer {answer:X}h, the model's {:X}h", left.answer)
+        } else if steps != left.steps {
+            format!("{steps} steps, the model's {}", left.steps)
+        } else if desk.to_bytes() != left.state {
+            format!("{desk:?}, the model's {:?}", Desk::from_bytes(left.state))
+        } else if lent.memory() != expected {
+            "the memory".to_string()
+        } else if !lent.untouched() {
+            "a byte beside the memory".to_string()
+        } else {
+            continue;
+        };
+        return Err(format!("{} sequence, act {i}, {act:?}: {what}", sequence.family));
+    }
+    Ok(())
+}
+
+fn number(name: &str, otherwise: u64) -> u64 {
+    std::env::var(name).map_or(otherwise, |text| text.parse().expect("a number"))
+}
+
+/// Replays them all and prints how many differ.
+fn replay_all(what: &str, sequences: impl Iterator<Item = Sequence>) {
+    let (mut count, mut calls, mut differ) = (0, 0, 0);
+    for sequence in sequences {
+        if let Err(difference) = replay(&sequence) {
+            if differ < 5 {
+                eprintln!("number {count}: {difference}");
+            }
+            differ += 1;
+        }
+        count += 1;
+        calls += sequence.calls();
+    }
+    println!("{what}: {count} sequences, {calls} calls: {differ} differ");
+    assert_eq!(differ, 0, "{what} differ from the model");
+}
+
+#[test]
+fn cases_of_the_generator() {
+    replay_all("cases of the generator", random::stored().into_iter());
+}
+
+#[test]
+fn random_sequences() {
+    let seed = number("MIDESK_SEED", 2);
+    let count = number("MIDESK_COUNT", 6000) as u32;
+    replay_all("random sequences", (0..count).map(|index| random::sequence(seed, index)));
+}

@@ -1,0 +1,427 @@
+//! Random sequences, valid and damaged.
+
+use super::session::Session;
+use super::*;
+use crate::code::decode;
+use crate::gen::layout::{layout, Layout};
+use crate::gen::refusals::{any_level, good_state, spoil};
+use crate::gen::walks::{any_kinds, noise_case, prepare, walk};
+use crate::gen::{all, known_bytes};
+use crate::rng::Rng;
+
+/// A run that nothing stops ends here.
+const MOST: u64 = 400;
+const LONGEST: u32 = 16_777_216;
+
+/// The generator's own cases.
+pub fn stored() -> Vec<Sequence> {
+    let mut list = Vec::new();
+    for (family, cases) in all() {
+        list.extend(cases.iter().map(|case| Session::of_case(family, case).finish()));
+    }
+    list
+}
+
+/// Sequence number `index` of a seed.
+pub fn sequence(seed: u64, index: u32) -> Sequence {
+    let mut rng = Rng::new(seed);
+    let mut rng = Rng::new(rng.next() ^ u64::from(index) << 20);
+    let rng = &mut rng;
+    if index % 400 == 399 {
+        return large(rng);
+    }
+    match rng.below(100) {
+        0..=19 => walked(rng),
+        20..=31 => noise(rng),
+        32..=64 => programs(rng),
+        65..=84 => damaged(rng),
+        _ => freshes(rng),
+    }
+}
+
+/// A length that number 1 refuses, not far above the allowed ones.
+fn bad_length(rng: &mut Rng) -> u32 {
+    match rng.below(6) {
+        0 => 0,
+        1 => rng.below(512),
+        2 => 512 * (1 + rng.below(6)) + 1,
+        3 => 512 * (1 + rng.below(6)) - 1,
+        _ => 512 * rng.below(6) + 1 + rng.below(511),
+    }
+}
+
+fn count(rng: &mut Rng) -> u64 {
+    match rng.below(8) {
+        0 => 0,
+        1 => 1,
+        2 => u64::MAX,
+        3 => 1 << 32 | u64::from(rng.below(3)),
+        4 => u64::from(rng.below(200)),
+        _ => u64::from(rng.below(12)),
+    }
+}
+
+/// Damages a good state: fields that some number refuses, fields of any
+/// content, single bytes, or all of it.
+fn damage(rng: &mut Rng, good: &State, length: u32) -> StateBytes {
+    let mut state = *good;
+    let mut bytes = packed(&state);
+    match rng.below(4) {
+        0 if length >= 512 => {
+            for _ in 0..1 + rng.below(2) {
+                let number = rng.pick(&[2, 3, 4, 5, 7]);
+                let variant = rng.below(6);
+                spoil(rng, &mut state, number, variant, length);
+            }
+            return packed(&state);
+        }
+        1 => {
+            for _ in 0..1 + rng.below(3) {
+                let (at, size) = if rng.chance(10) { (88, 2) } else { (64 + 4 * rng.below(6) as usize, 4) };
+                let word = rng.word();
+                bytes[at..at + size].copy_from_slice(&word.to_be_bytes()[..size]);
+            }
+        }
+        2 => {
+            for _ in 0..1 + rng.below(6) {
+                bytes[rng.below(90) as usize] = rng.word() as u8;
+            }
+        }
+        _ => bytes = std::array::from_fn(|_| rng.word() as u8),
+    }
+    bytes
+}
+
+/// Any call, with any numbers.
+fn any_call(session: &mut Session, rng: &mut Rng) {
+    match rng.below(12) {
+        0..=4 => session.call(Act::Step),
+        5..=7 => {
+            let n = count(rng);
+            session.run(n, MOST);
+        }
+        8..=10 => session.call(Act::Request(any_level(rng))),
+        _ => any_fresh(session, rng),
+    }
+}
+
+/// A block's address: mostly one that is allowed, often at a limit.
+fn block(rng: &mut Rng, length: u32, size: u32) -> u32 {
+    let last = length.saturating_sub(size);
+    match rng.below(12) {
+        0 => last & !3,
+        1 => (last & !3).wrapping_add(4),
+        2 => last,
+        3 => rng.word(),
+        4 => rng.below(last / 2 + 1),
+        5 => 0u32.wrapping_sub(4 * (1 + rng.below(65))),
+        _ => rng.below(last + 1) & !3,
+    }
+}
+
+fn any_fresh(session: &mut Session, rng: &mut Rng) {
+    let length = session.memory.len() as u32;
+    let start = if rng.chance(85) { rng.below(length + 2) } else { rng.word() };
+    let (system, control) = (block(rng, length, 256), block(rng, length, 80));
+    session.call(Act::Fresh { system, control, start });
+}
+
+/// Bytes that look like commands.
+fn code(rng: &mut Rng, bytes: &[u8], length: u32) -> Vec<u8> {
+    let mut code = Vec::new();
+    for _ in 0..1 + rng.below(8) {
+        let byte = if rng.chance(95) { rng.pick(bytes) } else { rng.word() as u8 };
+        code.push(byte);
+        let Some(known) = decode(byte) else { continue };
+        for _ in known.operands {
+            let form = if rng.chance(97) { rng.below(9) as u8 } else { rng.word() as u8 };
+            let pair = match form {
+                0 | 1 => 0,
+                2 | 3 | 5 | 7 | 8 => (rng.below(16) << 4) as u8,
+                _ => rng.word() as u8,
+            };
+            let z = match form {
+                1 => rng.below(256),
+                2 | 7 | 8 => 0,
+                _ if rng.chance(85) => rng.below(length),
+                _ => rng.word(),
+            };
+            code.extend([form, if rng.chance(3) { rng.word() as u8 } else { pair }]);
+            code.extend(z.to_be_bytes());
+        }
+    }
+    code
+}
+
+/// The caller writes some bytes, often commands where the desk is about to run.
+fn scribble(session: &mut Session, rng: &mut Rng, known: &[u8]) {
+    let length = session.memory.len() as u32;
+    if length == 0 {
+        return;
+    }
+    let mut memory = session.memory.clone();
+    let (at, bytes) = if rng.chance(60) {
+        (session.state.registers[PC], code(rng, known, length))
+    } else {
+        let bytes = (0..1 + rng.below(40)).map(|_| rng.word() as u8).collect();
+        (rng.below(length), bytes)
+    };
+    for (i, byte) in bytes.iter().enumerate() {
+        if let Some(place) = memory.get_mut(at as usize + i) {
+            *place = *byte;
+        }
+    }
+    session.put_memory(&memory);
+}
+
+/// The caller makes a stopped desk go on: elsewhere, in another mode, with
+/// the same command again, or freshly made.
+fn go_on(session: &mut Session, rng: &mut Rng) {
+    let length = session.memory.len() as u32;
+    if rng.chance(20) {
+        any_fresh(session, rng);
+        return;
+    }
+    let choice = rng.below(5);
+    let word = rng.word();
+    let near = rng.below(14);
+    let place = rng.below(length + 1);
+    session.edit(|state| {
+        state.mark = Mark::Running;
+        match choice {
+            0 => state.registers[PC] = place,
+            1 => state.registers[PC] = state.registers[PC].wrapping_add(near),
+            2 => state.status ^= KERNEL,
+            3 => state.registers[near as usize] = word,
+            _ => {}
+        }
+    });
+}
+
+/// Some calls with a damaged state or a wrong length, then back.
+fn detour(session: &mut Session, rng: &mut Rng) {
+    let good = session.state;
+    let length = session.memory.len();
+    if rng.chance(25) {
+        let memory = session.memory.clone();
+        let other = if rng.chance(70) { bad_length(rng) } else { 512 * (1 + rng.below(12)) };
+        session.put_length(other);
+        for _ in 0..1 + rng.below(3) {
+            any_call(session, rng);
+        }
+        session.put_length(length as u32);
+        session.put_memory(&memory);
+    } else {
+        session.put_state(damage(rng, &good, length as u32));
+        for _ in 0..1 + rng.below(3) {
+            any_call(session, rng);
+        }
+    }
+    session.put_state(packed(&good));
+}
+
+/// Calls after a case of the generator.
+fn tail(session: &mut Session, rng: &mut Rng) {
+    let known = known_bytes();
+    for _ in 0..rng.below(10) {
+        if session.state.stopped() && rng.chance(60) {
+            go_on(session, rng);
+        }
+        if rng.chance(30) {
+            scribble(session, rng, &known);
+        }
+        if rng.chance(8) {
+            detour(session, rng);
+        }
+        any_call(session, rng);
+    }
+}
+
+fn walked(rng: &mut Rng) -> Sequence {
+    let case = walk(rng, &known_bytes());
+    let mut session = Session::of_case("walk", &case);
+    tail(&mut session, rng);
+    session.finish()
+}
+
+fn noise(rng: &mut Rng) -> Sequence {
+    let round = rng.below(2);
+    let case = noise_case(rng, round);
+    let mut session = Session::of_case("noise", &case);
+    tail(&mut session, rng);
+    session.finish()
+}
+
+/// Lays commands where the desk is about to run them, for n steps, and the
+/// entries of the system block that they need.
+fn lay(session: &mut Session, desk: &mut Layout, bytes: &[u8], n: u64) {
+    if session.memory.len() != desk.maker.memory.len() || !session.ready() {
+        return;
+    }
+    desk.maker.take(&session.memory, session.state);
+    for i in 0..n {
+        if i > 0 {
+            desk.maker.silent_step();
+        }
+        prepare(desk, bytes);
+        if desk.maker.state.stopped() {
+            break;
+        }
+    }
+    let memory = desk.maker.image().to_vec();
+    session.put_memory(&memory);
+}
+
+/// A long program in both modes under a map of any kind, with interrupts,
+/// runs, stops and going on after them.
+fn programs(rng: &mut Rng) -> Sequence {
+    let bytes = known_bytes();
+    let kinds = any_kinds(rng);
+    let shared = rng.chance(70);
+    let mut desk = layout(Rng::new(rng.next()), &kinds, shared);
+    desk.maker.bad_entries = 4;
+    let mut state = desk.maker.state;
+    if rng.chance(35) {
+        state.status |= KERNEL;
+    }
+    if rng.chance(25) {
+        state.pending = rng.word() as u16 & rng.word() as u16 & 0xFFFE;
+    }
+    if rng.chance(12) {
+        // A map that ends early, or an empty one.
+        state.map_length = rng.below(state.map_length + 1);
+    }
+    desk.maker.begin(state);
+    desk.registers();
+    desk.aim();
+    let mut session = Session::new("program", desk.maker.memory.clone(), packed(&desk.maker.state));
+    let target = 8 + rng.below(28) as usize;
+    while session.calls() < target {
+        if session.state.stopped() && rng.chance(75) {
+            go_on(&mut session, rng);
+        }
+        match rng.below(40) {
+            0..=3 => session.call(Act::Request(any_level(rng))),
+            4..=9 => {
+                let n = u64::from(rng.below(8));
+                lay(&mut session, &mut desk, &bytes, n);
+                session.run(n, MOST);
+            }
+            10 => {
+                let n = count(rng);
+                session.run(n, MOST);
+            }
+            11 => scribble(&mut session, rng, &bytes),
+            12 => detour(&mut session, rng),
+            _ => {
+                lay(&mut session, &mut desk, &bytes, 1);
+                session.call(Act::Step);
+            }
+        }
+    }
+    session.finish()
+}
+
+/// Damaged states one after another, with a good one between.
+fn damaged(rng: &mut Rng) -> Sequence {
+    let known = known_bytes();
+    let length = if rng.chance(25) { bad_length(rng) } else { 512 * (1 + rng.below(5)) };
+    let filled = rng.below(3);
+    let memory = (0..length).map(|_| if filled > 0 { rng.word() as u8 } else { 0 }).collect();
+    let mut good = good_state(rng, length);
+    good.registers[PC] = rng.below(length + 1);
+    let first = if rng.chance(50) { packed(&good) } else { damage(rng, &good, length) };
+    let mut session = Session::new("damaged", memory, first);
+    for _ in 0..2 + rng.below(6) {
+        for _ in 0..1 + rng.below(3) {
+            any_call(&mut session, rng);
+        }
+        if rng.chance(30) {
+            scribble(&mut session, rng, &known);
+        }
+        let bytes = if rng.chance(40) { packed(&good) } else { damage(rng, &good, length) };
+        session.put_state(bytes);
+    }
+    any_call(&mut session, rng);
+    session.finish()
+}
+
+/// Fresh desks, good and bad, over lengths good and bad, each run a little.
+fn freshes(rng: &mut Rng) -> Sequence {
+    let known = known_bytes();
+    let length = if rng.chance(25) { bad_length(rng) } else { 512 * (1 + rng.below(8)) };
+    let memory = vec![0; length as usize];
+    let before: StateBytes = std::array::from_fn(|_| rng.word() as u8);
+    let mut session = Session::new("fresh", memory, before);
+    for _ in 0..1 + rng.below(4) {
+        any_fresh(&mut session, rng);
+        for _ in 0..1 + rng.below(5) {
+            if rng.chance(60) {
+                scribble(&mut session, rng, &known);
+            }
+            any_call(&mut session, rng);
+            if session.state.stopped() && rng.chance(40) {
+                go_on(&mut session, rng);
+            }
+        }
+    }
+    session.finish()
+}
+
+/// The greatest memory, or one that is too long, used near its end.
+fn large(rng: &mut Rng) -> Sequence {
+    let known = known_bytes();
+    let length = match rng.below(4) {
+        0 => LONGEST + 512,
+        1 => LONGEST - 512 * rng.below(3),
+        _ => LONGEST,
+    };
+    let mut session = Session::new("large", vec![0; length as usize], [0; STATE_BYTES]);
+    let end = length - 512;
+    let system = rng.pick(&[0, length - 256, length - 336]);
+    let control = rng.pick(&[1024, length - 80]);
+    session.call(Act::Fresh { system, control, start: end + rng.below(200) });
+    for round in 0..8 {
+        if session.state.stopped() {
+            let again = rng.chance(70);
+            session.edit(|state| {
+                state.mark = Mark::Running;
+                state.registers[PC] = end + 40 * round;
+                if again {
+                    state.status |= KERNEL;
+                }
+            });
+        }
+        let mut memory = session.memory.clone();
+        let at = session.state.registers[PC] as usize;
+        for (i, byte) in code(rng, &known, length).iter().enumerate() {
+            if let Some(place) = memory.get_mut(at + i) {
+                *place = *byte;
+            }
+        }
+        if rng.chance(30) {
+            // User mode under a map of the last frames, one of them past the memory.
+            let base = length - 1024;
+            for page in 0..4 {
+                let entry = 0xC000_0000 | (length / 512 - 2 + page);
+                memory[(base + 4 * page) as usize..][..4].copy_from_slice(&entry.to_be_bytes());
+            }
+            session.put_memory(&memory);
+            let place = 512 + rng.below(600);
+            session.edit(|state| {
+                state.status &= !KERNEL;
+                (state.map_base, state.map_length) = (base, 4);
+                state.registers[PC] = place;
+            });
+        } else {
+            session.put_memory(&memory);
+        }
+        if rng.chance(70) {
+            session.call(Act::Step);
+        } else {
+            let n = u64::from(rng.below(6));
+            session.run(n, MOST);
+        }
+    }
+    session.finish()
+}
