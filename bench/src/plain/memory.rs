@@ -10,6 +10,7 @@ const FORBIDDEN: u32 = 0x3F00_0000;
 const FRAME: u32 = 0x00FF_FFFF;
 
 /// The place in memory of one byte, or alarm 8 to 11.
+#[inline(always)]
 fn lookup(memory: &[u8], desk: &State, address: u32, write: bool) -> Result<usize, Alarm> {
     if desk.status & KERNEL != 0 {
         let place = address as usize;
@@ -61,6 +62,7 @@ pub fn word<const ONE_LOOKUP: bool>(memory: &[u8], desk: &State, address: u32) -
 }
 
 /// The six bytes of an operand: form, register pair and word.
+#[inline(always)]
 pub fn fields<const ONE_LOOKUP: bool>(memory: &[u8], desk: &State, address: u32) -> Result<(u8, u8, u32), Alarm> {
     if ONE_LOOKUP && in_page(address, 6) {
         let place = lookup(memory, desk, address, false)?;

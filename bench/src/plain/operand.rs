@@ -5,12 +5,13 @@ use super::Alarm;
 use crate::state::State;
 
 #[derive(Clone, Copy, PartialEq, Eq)]
-pub enum Role {
+enum Role {
     Value,
     Address,
-    Destination,
+    Target,
 }
 
+/// What an operand names.
 #[derive(Clone, Copy)]
 pub enum Place {
     Value(u32),
@@ -19,51 +20,55 @@ pub enum Place {
 }
 
 /// The operand that R15 names, the `number`th of its command; R15 goes past it.
-pub fn operand<const ONE_LOOKUP: bool>(
-    memory: &[u8],
-    desk: &mut State,
-    number: u32,
-    role: Role,
-) -> Result<Place, Alarm> {
+#[inline(always)]
+fn place<const ONE_LOOKUP: bool>(memory: &[u8], desk: &mut State, number: u32, role: Role) -> Result<Place, Alarm> {
     let base = desk.registers[15];
     let (form, pair, z) = fields::<ONE_LOOKUP>(memory, desk, base)?;
     desk.registers[15] = base.wrapping_add(6);
     let (x, y) = ((pair / 16) as usize, (pair % 16) as usize);
-    let good = match form {
-        0 => x == 0 && y == 0,
-        1 => x == 0 && y == 0 && role == Role::Value,
-        2 => y == 0 && z == 0 && role != Role::Address,
-        3 | 5 => y == 0,
-        4 | 6 => true,
-        7 | 8 => x != 15 && y == 0 && z == 0,
-        _ => false,
-    };
-    if !good {
-        return Err(Alarm(14, number));
-    }
-    let sum = z.wrapping_add(desk.registers[x]);
-    let index = desk.registers[y].wrapping_mul(4);
+    let sum = |desk: &State| z.wrapping_add(desk.registers[x]);
+    let index = |desk: &State| desk.registers[y].wrapping_mul(4);
     Ok(match form {
-        0 => Place::At(z),
-        1 => Place::Value(z),
-        2 => Place::Register(x),
-        3 => Place::At(sum),
-        4 => Place::At(sum.wrapping_add(index)),
-        5 => Place::At(word::<ONE_LOOKUP>(memory, desk, sum)?),
-        6 => Place::At(word::<ONE_LOOKUP>(memory, desk, sum)?.wrapping_add(index)),
-        7 => {
+        0 if pair == 0 => Place::At(z),
+        1 if pair == 0 && role == Role::Value => Place::Value(z),
+        2 if y == 0 && z == 0 && role != Role::Address => Place::Register(x),
+        3 if y == 0 => Place::At(sum(desk)),
+        4 => Place::At(sum(desk).wrapping_add(index(desk))),
+        5 if y == 0 => Place::At(word::<ONE_LOOKUP>(memory, desk, sum(desk))?),
+        6 => Place::At(word::<ONE_LOOKUP>(memory, desk, sum(desk))?.wrapping_add(index(desk))),
+        7 if x != 15 && y == 0 && z == 0 => {
             desk.registers[x] = desk.registers[x].wrapping_sub(4);
             Place::At(desk.registers[x])
         }
-        _ => {
+        8 if x != 15 && y == 0 && z == 0 => {
             let address = desk.registers[x];
             desk.registers[x] = address.wrapping_add(4);
             Place::At(address)
         }
+        _ => return Err(Alarm(14, number)),
     })
 }
 
+/// The next operand's value.
+pub fn value<const ONE_LOOKUP: bool>(memory: &[u8], desk: &mut State, number: u32) -> Result<u32, Alarm> {
+    place::<ONE_LOOKUP>(memory, desk, number, Role::Value)?.read::<ONE_LOOKUP>(memory, desk)
+}
+
+/// The next operand as a place to write to.
+pub fn target<const ONE_LOOKUP: bool>(memory: &[u8], desk: &mut State, number: u32) -> Result<Place, Alarm> {
+    place::<ONE_LOOKUP>(memory, desk, number, Role::Target)
+}
+
+/// The next operand's address.
+pub fn address<const ONE_LOOKUP: bool>(memory: &[u8], desk: &mut State, number: u32) -> Result<u32, Alarm> {
+    match place::<ONE_LOOKUP>(memory, desk, number, Role::Address)? {
+        Place::At(address) => Ok(address),
+        Place::Value(_) | Place::Register(_) => Err(Alarm(14, number)),
+    }
+}
+
 impl Place {
+    #[inline(always)]
     pub fn read<const ONE_LOOKUP: bool>(self, memory: &[u8], desk: &State) -> Result<u32, Alarm> {
         match self {
             Place::Value(z) => Ok(z),
@@ -72,6 +77,7 @@ impl Place {
         }
     }
 
+    #[inline(always)]
     pub fn write<const ONE_LOOKUP: bool>(self, memory: &mut [u8], desk: &mut State, value: u32) -> Result<(), Alarm> {
         match self {
             Place::Value(_) => Ok(()),
