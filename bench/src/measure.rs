@@ -1,14 +1,15 @@
 //! Rounds of slices: in each round every contender runs every row for a while, so that what else the machine does
-//! falls on all alike. Ratios are taken within a round.
+//! falls on all alike. Ratios are taken within a round of a row, which lasts about half a second.
 
 use crate::clock;
 use crate::contender::{Contender, CONTENDERS};
 use crate::loops::{Bench, Loop, LENGTHS};
 use crate::simh::Vax;
 
-/// CPU seconds of a slice.
-const SLICE: f64 = 0.06;
-/// The simulator's start-up is taken off, so its slices are longer.
+/// CPU seconds of a slice of a desk. A round has three of them, with the simulators between.
+const SLICE: f64 = 0.02;
+const SLICES: usize = 3;
+/// CPU seconds of a slice of a simulator: longer, for its start-up is taken off. A round has one for each.
 const SLICE_SIMH: f64 = 0.15;
 
 pub struct Row {
@@ -20,6 +21,7 @@ pub struct Row {
     pub simulators: Vec<Vec<f64>>,
 }
 
+/// A row that is being measured.
 struct Track {
     bench: Bench,
     /// Commands of a slice, by contender.
@@ -30,7 +32,7 @@ struct Track {
     row: Row,
 }
 
-/// Commands a second of one slice.
+/// CPU seconds of so many commands.
 fn slice(bench: &mut Bench, contender: Contender, count: u64) -> Result<f64, String> {
     let mut state = bench.start(u32::MAX);
     let before = clock::thread();
@@ -39,17 +41,17 @@ fn slice(bench: &mut Bench, contender: Contender, count: u64) -> Result<f64, Str
     if steps != Ok(count) {
         return Err(format!("{} {}: {steps:?} steps of {count}", contender.name(), bench.which.name()));
     }
-    Ok(count as f64 / seconds)
+    Ok(seconds)
 }
 
 impl Track {
     fn new(which: Loop, length: usize, simulators: &[&'static str]) -> Result<Track, String> {
+        const FIRST: u64 = 50_000;
         let mut bench = Bench::new(which, length);
         let mut counts = vec![];
         for contender in CONTENDERS {
-            slice(&mut bench, contender, 20_000)?;
-            let speed = slice(&mut bench, contender, 50_000)?;
-            counts.push((speed * SLICE) as u64);
+            let seconds = slice(&mut bench, contender, FIRST)?;
+            counts.push((FIRST as f64 * SLICE / seconds) as u64);
         }
         let (mut vaxes, mut turns) = (vec![], vec![]);
         for simulator in simulators {
@@ -64,18 +66,19 @@ impl Track {
     }
 
     fn round(&mut self, round: usize) -> Result<(), String> {
-        let all = CONTENDERS.len() + self.vaxes.len();
-        for i in 0..all {
-            // Another one begins in each round.
-            let turn = (i + round) % all;
-            if turn < CONTENDERS.len() {
-                let speed = slice(&mut self.bench, CONTENDERS[turn], self.counts[turn])?;
-                self.row.desks[turn].push(speed);
-            } else {
-                let turn = turn - CONTENDERS.len();
-                let speed = self.vaxes[turn].speed(self.turns[turn])?;
-                self.row.simulators[turn].push(speed);
+        let mut seconds = [0.0; CONTENDERS.len()];
+        for part in 0..SLICES {
+            for i in 0..CONTENDERS.len() {
+                // Another one begins each time.
+                let i = (i + part + round) % CONTENDERS.len();
+                seconds[i] += slice(&mut self.bench, CONTENDERS[i], self.counts[i])?;
             }
+            if let Some(vax) = self.vaxes.get(part) {
+                self.row.simulators[part].push(vax.speed(self.turns[part])?);
+            }
+        }
+        for (i, seconds) in seconds.into_iter().enumerate() {
+            self.row.desks[i].push((SLICES as u64 * self.counts[i]) as f64 / seconds);
         }
         Ok(())
     }

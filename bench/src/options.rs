@@ -7,7 +7,7 @@ pub const USAGE: &str = "bench/run [ROUNDS] [--loop LOOP]              the table
 bench/run --loop LOOP --count N [--desk DESK]  N commands of one desk, once, for a profiler
 LOOP: reg-kernel, reg-user, mem-kernel, mem-user; DESK: proved (else), bytewise, word, model";
 
-const ROUNDS: usize = 15;
+const ROUNDS: usize = 20;
 
 pub struct Single {
     pub which: Loop,
