@@ -1,8 +1,7 @@
 //! The desks that are compared, behind one call.
 
-use crate::state::{State, RUNNING};
+use crate::state::State;
 use crate::{plain, proved};
-use model::state::Mark;
 
 #[derive(Clone, Copy, PartialEq, Eq, Debug)]
 pub enum Contender {
@@ -40,31 +39,8 @@ impl Contender {
 }
 
 fn run_model(memory: &mut [u8], state: &mut State, n: u64) -> Result<u64, u32> {
-    let before = model::state::State {
-        registers: state.registers,
-        status: state.status,
-        pending: state.pending,
-        map_base: state.map_base,
-        map_length: state.map_length,
-        system_block: state.system_block,
-        control_block: state.control_block,
-        mark: if state.stopped == RUNNING { Mark::Running } else { Mark::Stopped(state.stopped) },
-    };
-    let ran = model::desk::run(&before, memory, n);
-    let after = ran.state;
-    *state = State {
-        registers: after.registers,
-        status: after.status,
-        map_base: after.map_base,
-        map_length: after.map_length,
-        system_block: after.system_block,
-        control_block: after.control_block,
-        stopped: match after.mark {
-            Mark::Running => RUNNING,
-            Mark::Stopped(number) => number,
-        },
-        pending: after.pending,
-    };
+    let ran = model::desk::run(&state.to_model(), memory, n);
+    *state = State::from_model(&ran.state);
     match ran.refusal {
         0 => Ok(ran.count),
         number => Err(number),

@@ -8,6 +8,8 @@ mod measure;
 mod options;
 mod plain;
 mod proved;
+#[cfg(test)]
+mod random;
 mod simh;
 mod state;
 mod table;

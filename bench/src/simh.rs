@@ -14,15 +14,23 @@
 use crate::clock;
 use crate::loops::{Kind, Loop, Mode};
 use std::fmt::Write;
-use std::process::{Command, Stdio};
+use std::process::{Command, Output, Stdio};
 
 /// The simulators in Debian's package simh: a VAX-11/780 and a MicroVAX 3900.
 const SIMULATORS: [&str; 2] = ["vax780", "vax"];
 
 /// Those of the simulators that can be started.
 pub fn installed() -> Vec<&'static str> {
-    let which = Loop { kind: Kind::Register, mode: Mode::Kernel };
-    SIMULATORS.into_iter().filter(|name| run(name, which, 1).is_ok()).collect()
+    SIMULATORS.into_iter().filter(|name| simulate(name, "exit\n").is_ok()).collect()
+}
+
+/// Starts a simulator with these commands and waits for its end.
+fn simulate(simulator: &str, script: &str) -> std::io::Result<Output> {
+    let file = std::env::temp_dir().join(format!("bench-{}.ini", std::process::id()));
+    std::fs::write(&file, script)?;
+    let output = Command::new(simulator).arg(&file).stdin(Stdio::null()).output();
+    std::fs::remove_file(&file)?;
+    output
 }
 
 const PROGRAM: u32 = 0x2000;
@@ -107,13 +115,10 @@ fn expected(which: Loop, turns: u32) -> Vec<String> {
 
 /// CPU seconds of the whole process, start-up included.
 fn run(simulator: &str, which: Loop, turns: u32) -> Result<f64, String> {
-    let file = std::env::temp_dir().join(format!("bench-{}.ini", std::process::id()));
-    std::fs::write(&file, script(which, turns)).map_err(|e| format!("{}: {e}", file.display()))?;
+    let script = script(which, turns);
     let before = clock::children();
-    let output = Command::new(simulator).arg(&file).stdin(Stdio::null()).output();
+    let output = simulate(simulator, &script).map_err(|e| format!("{simulator}: {e}"))?;
     let seconds = clock::children() - before;
-    let _ = std::fs::remove_file(&file);
-    let output = output.map_err(|e| format!("{simulator}: {e}"))?;
     let text = String::from_utf8_lossy(&output.stdout);
     for line in expected(which, turns) {
         if !text.contains(&line) {

@@ -1,4 +1,6 @@
-//! The desk's state, and its 90 bytes as the archive takes them: each value highest byte first.
+//! The desk's state; its 90 bytes as the archive takes them, each value highest byte first; the model's state.
+
+use model::state::Mark;
 
 /// The number in `stopped` while the desk runs.
 pub const RUNNING: u32 = u32::MAX;
@@ -42,6 +44,35 @@ impl State {
             control_block: word(20),
             stopped: word(21),
             pending: u16::from_be_bytes([bytes[88], bytes[89]]),
+        }
+    }
+
+    pub fn to_model(self) -> model::state::State {
+        model::state::State {
+            registers: self.registers,
+            status: self.status,
+            pending: self.pending,
+            map_base: self.map_base,
+            map_length: self.map_length,
+            system_block: self.system_block,
+            control_block: self.control_block,
+            mark: if self.stopped == RUNNING { Mark::Running } else { Mark::Stopped(self.stopped) },
+        }
+    }
+
+    pub fn from_model(state: &model::state::State) -> State {
+        State {
+            registers: state.registers,
+            status: state.status,
+            map_base: state.map_base,
+            map_length: state.map_length,
+            system_block: state.system_block,
+            control_block: state.control_block,
+            stopped: match state.mark {
+                Mark::Running => RUNNING,
+                Mark::Stopped(number) => number,
+            },
+            pending: state.pending,
         }
     }
 }

@@ -16,6 +16,12 @@ const ADD: u8 = 0x42;
 const SUB: u8 = 0x4A;
 const CMP: u8 = 0x66;
 
+/// Whether the command of this byte is covered.
+#[cfg(test)]
+pub fn covers(byte: u8) -> bool {
+    matches!(byte, HALT | MOVE | ADD | SUB | CMP | 0x70..=0x78)
+}
+
 fn set_flags(desk: &mut State, n: bool, z: bool, v: bool, c: bool) {
     let flags = u32::from(n) << 3 | u32::from(z) << 2 | u32::from(v) << 1 | u32::from(c);
     desk.status = desk.status & !15 | flags;

@@ -21,6 +21,9 @@ mod operand;
 
 use crate::state::{State, KERNEL, RUNNING};
 
+#[cfg(test)]
+pub use command::covers;
+
 /// An alarm's number and argument.
 #[derive(Clone, Copy, PartialEq, Eq, Debug)]
 pub struct Alarm(u32, u32);
