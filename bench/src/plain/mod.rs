@@ -44,11 +44,11 @@ fn step<const ONE_LOOKUP: bool>(memory: &mut [u8], desk: &mut State) {
     if let Some(level) = entry::interrupt(desk) {
         return entry::interrupted(memory, desk, level);
     }
-    let (registers, status) = (desk.registers, desk.status);
+    // Flags are set last, so an alarm has only registers to undo.
+    let registers = desk.registers;
     if let Err(Alarm(number, argument)) = command::command::<ONE_LOOKUP>(memory, desk) {
         desk.registers = registers;
-        desk.status = status;
-        if status & KERNEL != 0 {
+        if desk.status & KERNEL != 0 {
             desk.stopped = number;
         } else {
             entry::enter(memory, desk, number, argument);

@@ -4,13 +4,6 @@ use super::memory::{fields, store, word};
 use super::Alarm;
 use crate::state::State;
 
-#[derive(Clone, Copy, PartialEq, Eq)]
-enum Role {
-    Value,
-    Address,
-    Target,
-}
-
 /// What an operand names.
 #[derive(Clone, Copy)]
 pub enum Place {
@@ -21,7 +14,7 @@ pub enum Place {
 
 /// The operand that R15 names, the `number`th of its command; R15 goes past it.
 #[inline(always)]
-fn place<const ONE_LOOKUP: bool>(memory: &[u8], desk: &mut State, number: u32, role: Role) -> Result<Place, Alarm> {
+fn place<const ONE_LOOKUP: bool>(memory: &[u8], desk: &mut State, number: u32) -> Result<Place, Alarm> {
     let base = desk.registers[15];
     let (form, pair, z) = fields::<ONE_LOOKUP>(memory, desk, base)?;
     desk.registers[15] = base.wrapping_add(6);
@@ -30,8 +23,8 @@ fn place<const ONE_LOOKUP: bool>(memory: &[u8], desk: &mut State, number: u32, r
     let index = |desk: &State| desk.registers[y].wrapping_mul(4);
     Ok(match form {
         0 if pair == 0 => Place::At(z),
-        1 if pair == 0 && role == Role::Value => Place::Value(z),
-        2 if y == 0 && z == 0 && role != Role::Address => Place::Register(x),
+        1 if pair == 0 => Place::Value(z),
+        2 if y == 0 && z == 0 => Place::Register(x),
         3 if y == 0 => Place::At(sum(desk)),
         4 => Place::At(sum(desk).wrapping_add(index(desk))),
         5 if y == 0 => Place::At(word::<ONE_LOOKUP>(memory, desk, sum(desk))?),
@@ -50,18 +43,24 @@ fn place<const ONE_LOOKUP: bool>(memory: &[u8], desk: &mut State, number: u32, r
 }
 
 /// The next operand's value.
+#[inline(always)]
 pub fn value<const ONE_LOOKUP: bool>(memory: &[u8], desk: &mut State, number: u32) -> Result<u32, Alarm> {
-    place::<ONE_LOOKUP>(memory, desk, number, Role::Value)?.read::<ONE_LOOKUP>(memory, desk)
+    place::<ONE_LOOKUP>(memory, desk, number)?.read::<ONE_LOOKUP>(memory, desk)
 }
 
-/// The next operand as a place to write to.
+/// The next operand as a place to write to: not form 1.
+#[inline(always)]
 pub fn target<const ONE_LOOKUP: bool>(memory: &[u8], desk: &mut State, number: u32) -> Result<Place, Alarm> {
-    place::<ONE_LOOKUP>(memory, desk, number, Role::Target)
+    match place::<ONE_LOOKUP>(memory, desk, number)? {
+        Place::Value(_) => Err(Alarm(14, number)),
+        target => Ok(target),
+    }
 }
 
-/// The next operand's address.
+/// The next operand's address: not forms 1 and 2.
+#[inline(always)]
 pub fn address<const ONE_LOOKUP: bool>(memory: &[u8], desk: &mut State, number: u32) -> Result<u32, Alarm> {
-    match place::<ONE_LOOKUP>(memory, desk, number, Role::Address)? {
+    match place::<ONE_LOOKUP>(memory, desk, number)? {
         Place::At(address) => Ok(address),
         Place::Value(_) | Place::Register(_) => Err(Alarm(14, number)),
     }
