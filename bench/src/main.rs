@@ -21,7 +21,7 @@ use std::process::ExitCode;
 fn main() -> ExitCode {
     let done = options::parse(std::env::args().skip(1)).and_then(|options| match options {
         Options::Single(single) => run_once(&single),
-        Options::Table { loops, rounds } => print_table(&loops.map_or(LOOPS.to_vec(), |l| vec![l]), rounds),
+        Options::Table { only, rounds } => print_table(&only.map_or(LOOPS.to_vec(), |which| vec![which]), rounds),
     });
     match done {
         Ok(()) => ExitCode::SUCCESS,
@@ -45,14 +45,14 @@ fn run_once(single: &Single) -> Result<(), String> {
     Ok(())
 }
 
-fn print_table(loops: &[Loop], rounds: usize) -> Result<(), String> {
+fn print_table(loops: &[Loop], rounds: Option<usize>) -> Result<(), String> {
     for which in loops {
         for length in LENGTHS {
             check::check(*which, length)?;
         }
     }
     let simulators = simh::installed();
-    let rows = measure::measure(loops, &simulators, rounds)?;
-    table::print(&rows, &simulators, rounds);
+    let measured = measure::measure(loops, &simulators, rounds)?;
+    table::print(&measured, &simulators);
     Ok(())
 }

@@ -3,11 +3,9 @@
 use crate::contender::Contender;
 use crate::loops::Loop;
 
-pub const USAGE: &str = "bench/run [ROUNDS] [--loop LOOP]              the table, of one loop where named
+pub const USAGE: &str = "bench/run [ROUNDS] [--loop LOOP]              the table, of one loop where named; ROUNDS else as many as 2 minutes give
 bench/run --loop LOOP --count N [--desk DESK]  N commands of one desk, once, for a profiler
 LOOP: reg-kernel, reg-user, mem-kernel, mem-user; DESK: proved (else), bytewise, word, model";
-
-const ROUNDS: usize = 20;
 
 pub struct Single {
     pub which: Loop,
@@ -16,7 +14,7 @@ pub struct Single {
 }
 
 pub enum Options {
-    Table { loops: Option<Loop>, rounds: usize },
+    Table { only: Option<Loop>, rounds: Option<usize> },
     Single(Single),
 }
 
@@ -37,7 +35,7 @@ pub fn parse(arguments: impl Iterator<Item = String>) -> Result<Options, String>
         }
     }
     match (which, count, contender) {
-        (loops, None, None) => Ok(Options::Table { loops, rounds: rounds.unwrap_or(ROUNDS) }),
+        (only, None, None) => Ok(Options::Table { only, rounds }),
         (Some(which), Some(count), contender) => {
             Ok(Options::Single(Single { which, count, contender: contender.unwrap_or(Contender::Proved) }))
         }
