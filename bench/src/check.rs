@@ -1,0 +1,49 @@
+//! Before timing: every contender must come to the same end on every loop.
+
+use crate::contender::{Contender, CONTENDERS};
+use crate::loops::{Bench, Loop};
+use crate::state::State;
+
+/// What a run leaves.
+struct End {
+    steps: Result<u64, u32>,
+    state: State,
+    memory: Vec<u8>,
+}
+
+fn end(contender: Contender, which: Loop, length: usize, turns: u32, n: u64) -> End {
+    let mut bench = Bench::new(which, length);
+    let mut state = bench.start(turns);
+    let steps = contender.run(&mut bench.memory, &mut state, n);
+    End { steps, state, memory: bench.memory }
+}
+
+fn difference(a: &End, b: &End) -> Option<String> {
+    if a.steps != b.steps {
+        return Some(format!("steps {:?} and {:?}", a.steps, b.steps));
+    }
+    if a.state != b.state {
+        return Some(format!("state\n  {:X?}\nand\n  {:X?}", a.state, b.state));
+    }
+    let at = a.memory.iter().zip(&b.memory).position(|(x, y)| x != y)?;
+    Some(format!("memory at {at:X}h: {:02X}h and {:02X}h", a.memory[at], b.memory[at]))
+}
+
+/// Runs a loop to its end, and to a place in the middle of a turn.
+pub fn check(which: Loop, length: usize) -> Result<(), String> {
+    const TURNS: u32 = 500;
+    for n in [u64::MAX, which.steps(TURNS) / 2 + 1] {
+        let reference = end(Contender::Model, which, length, TURNS, n);
+        if reference.steps != Ok(n.min(which.steps(TURNS))) {
+            return Err(format!("{}: the model makes {:?} steps", which.name(), reference.steps));
+        }
+        for contender in CONTENDERS {
+            let other = end(contender, which, length, TURNS, n);
+            if let Some(what) = difference(&reference, &other) {
+                let name = contender.name();
+                return Err(format!("{}, memory {length}: model and {name} differ: {what}", which.name()));
+            }
+        }
+    }
+    Ok(())
+}

@@ -1,0 +1,113 @@
+//! Rounds of slices: in each round every desk runs every loop in every memory for a while, with the simulators between,
+//! so that what else the machine does falls on all alike. Ratios are taken within a round of a loop, which lasts less
+//! than a second.
+
+use crate::clock;
+use crate::contender::{Contender, CONTENDERS};
+use crate::loops::{Bench, Loop, LENGTHS};
+use crate::simh::Vax;
+use std::time::{Duration, Instant};
+
+/// Where the number of rounds is not given: the time after which none begins, and how many there are at least.
+const TIME: Duration = Duration::from_secs(115);
+const LEAST_ROUNDS: usize = 8;
+
+/// CPU seconds of a slice of a desk. A round has three of them in each memory, with the simulators between.
+const SLICE: f64 = 0.02;
+const SLICES: usize = 3;
+/// CPU seconds of a slice of a simulator: longer, for its start-up is taken off. A round has one for each.
+const SLICE_SIMH: f64 = 0.15;
+
+/// Commands a second.
+type Speeds = Vec<f64>;
+
+/// What was measured of a loop.
+pub struct Measured {
+    pub which: Loop,
+    /// By length of the memory, contender and round.
+    pub desks: [[Speeds; CONTENDERS.len()]; LENGTHS.len()],
+    /// By simulator and round.
+    pub simulators: Vec<Speeds>,
+}
+
+/// A loop that is being measured.
+struct Track {
+    benches: [Bench; LENGTHS.len()],
+    /// Commands of a slice, by contender.
+    counts: [u64; CONTENDERS.len()],
+    /// The simulators, with the turns of a slice.
+    vaxes: Vec<(Vax, u32)>,
+    measured: Measured,
+}
+
+/// CPU seconds of so many commands.
+fn slice(bench: &mut Bench, contender: Contender, count: u64) -> Result<f64, String> {
+    let mut state = bench.start(u32::MAX);
+    let before = clock::thread();
+    let steps = contender.run(&mut bench.memory, &mut state, count);
+    let seconds = clock::thread() - before;
+    if steps != Ok(count) {
+        return Err(format!("{} {}: {steps:?} steps of {count}", contender.name(), bench.which.name()));
+    }
+    Ok(seconds)
+}
+
+impl Track {
+    fn new(which: Loop, simulators: &[&'static str]) -> Result<Track, String> {
+        const FIRST: u64 = 50_000;
+        let mut benches = LENGTHS.map(|length| Bench::new(which, length));
+        let mut counts = [0; CONTENDERS.len()];
+        for (count, contender) in counts.iter_mut().zip(CONTENDERS) {
+            let seconds = slice(&mut benches[0], contender, FIRST)?;
+            *count = (FIRST as f64 * SLICE / seconds) as u64;
+        }
+        let mut vaxes = vec![];
+        for simulator in simulators {
+            let vax = Vax::new(simulator, which)?;
+            let turns = vax.speed(500_000)? * SLICE_SIMH / which.commands_per_turn() as f64;
+            vaxes.push((vax, turns as u32));
+        }
+        let measured = Measured { which, desks: Default::default(), simulators: vec![vec![]; simulators.len()] };
+        Ok(Track { benches, counts, vaxes, measured })
+    }
+
+    fn round(&mut self, round: usize) -> Result<(), String> {
+        let mut seconds = [[0.0; CONTENDERS.len()]; LENGTHS.len()];
+        for part in 0..SLICES {
+            for i in 0..CONTENDERS.len() {
+                // Another one begins each time.
+                let i = (i + part + round) % CONTENDERS.len();
+                for (bench, seconds) in self.benches.iter_mut().zip(&mut seconds) {
+                    seconds[i] += slice(bench, CONTENDERS[i], self.counts[i])?;
+                }
+            }
+            if let Some((vax, turns)) = self.vaxes.get(part) {
+                self.measured.simulators[part].push(vax.speed(*turns)?);
+            }
+        }
+        for (desks, seconds) in self.measured.desks.iter_mut().zip(seconds) {
+            for (i, speeds) in desks.iter_mut().enumerate() {
+                speeds.push((SLICES as u64 * self.counts[i]) as f64 / seconds[i]);
+            }
+        }
+        Ok(())
+    }
+}
+
+/// So many rounds, or as many as there is time for.
+pub fn measure(loops: &[Loop], simulators: &[&'static str], rounds: Option<usize>) -> Result<Vec<Measured>, String> {
+    let begin = Instant::now();
+    clock::stay();
+    let mut tracks = vec![];
+    for which in loops {
+        tracks.push(Track::new(*which, simulators)?);
+    }
+    let mut round = 0;
+    while rounds.map_or(round < LEAST_ROUNDS || begin.elapsed() < TIME, |rounds| round < rounds) {
+        for track in &mut tracks {
+            track.round(round)?;
+        }
+        round += 1;
+    }
+    Ok(tracks.into_iter().map(|track| track.measured).collect())
+}

@@ -1,0 +1,57 @@
+//! The desk in plain Rust: a yardstick for the proved code, not a product.
+//!
+//! It is written as one would write it without proofs: one state that is changed in place, safe Rust with its bounds
+//! checks, errors by `?`. It comes in two kinds: with `ONE_LOOKUP` a word, or the six bytes of an operand, that lies in
+//! one page is looked up once; without it every byte is looked up by itself, as document 01 words it.
+//!
+//! Covered, with the same results as the proved desk:
+//! - HALT, MOVE W, ADD W, SUB W (two operands), CMP W and the jumps 70h to 78h;
+//! - the nine forms with their rules (14), R15 inside an operand, flags;
+//! - the map and alarms 8 to 13, the undoing of a command that alarms;
+//! - refusals 1 to 5 and 7, interrupts, kernel entry and stop 16, the step count.
+//!
+//! Not covered: every other command (it gives alarm 12, as an unknown byte does), and with that B and H values, three
+//! operands, the stack, the system call and RESUME; the calls for a fresh desk and for a level.
+#![forbid(unsafe_code)]
+
+mod command;
+mod entry;
+mod memory;
+mod operand;
+
+use crate::state::{State, KERNEL, RUNNING};
+
+#[cfg(test)]
+pub use command::covers;
+
+/// An alarm's number and argument.
+#[derive(Clone, Copy, PartialEq, Eq, Debug)]
+pub struct Alarm(u32, u32);
+
+/// At most `n` steps: their count, or the number of the refusal.
+#[inline(never)]
+pub fn run<const ONE_LOOKUP: bool>(memory: &mut [u8], desk: &mut State, n: u64) -> Result<u64, u32> {
+    entry::refusal(memory, desk)?;
+    let mut steps = 0;
+    while steps < n && desk.stopped == RUNNING {
+        step::<ONE_LOOKUP>(memory, desk);
+        steps += 1;
+    }
+    Ok(steps)
+}
+
+fn step<const ONE_LOOKUP: bool>(memory: &mut [u8], desk: &mut State) {
+    if let Some(level) = entry::interrupt(desk) {
+        return entry::interrupted(memory, desk, level);
+    }
+    // Flags are set last, so an alarm has only registers to undo.
+    let registers = desk.registers;
+    if let Err(Alarm(number, argument)) = command::command::<ONE_LOOKUP>(memory, desk) {
+        desk.registers = registers;
+        if desk.status & KERNEL != 0 {
+            desk.stopped = number;
+        } else {
+            entry::enter(memory, desk, number, argument);
+        }
+    }
+}

@@ -1,0 +1,90 @@
+//! Operands: six bytes, form rules, address, value.
+
+use super::memory::{fields, store, word};
+use super::Alarm;
+use crate::state::State;
+
+/// What an operand names.
+#[derive(Clone, Copy)]
+pub enum Place {
+    Value(u32),
+    Register(usize),
+    At(u32),
+}
+
+/// The operand that R15 names, the `number`th of its command; R15 goes past it.
+#[inline(always)]
+fn place<const ONE_LOOKUP: bool>(memory: &[u8], desk: &mut State, number: u32) -> Result<Place, Alarm> {
+    let base = desk.registers[15];
+    let (form, pair, z) = fields::<ONE_LOOKUP>(memory, desk, base)?;
+    desk.registers[15] = base.wrapping_add(6);
+    let (x, y) = ((pair / 16) as usize, (pair % 16) as usize);
+    let sum = |desk: &State| z.wrapping_add(desk.registers[x]);
+    let index = |desk: &State| desk.registers[y].wrapping_mul(4);
+    Ok(match form {
+        0 if pair == 0 => Place::At(z),
+        1 if pair == 0 => Place::Value(z),
+        2 if y == 0 && z == 0 => Place::Register(x),
+        3 if y == 0 => Place::At(sum(desk)),
+        4 => Place::At(sum(desk).wrapping_add(index(desk))),
+        5 if y == 0 => Place::At(word::<ONE_LOOKUP>(memory, desk, sum(desk))?),
+        6 => Place::At(word::<ONE_LOOKUP>(memory, desk, sum(desk))?.wrapping_add(index(desk))),
+        7 if x != 15 && y == 0 && z == 0 => {
+            desk.registers[x] = desk.registers[x].wrapping_sub(4);
+            Place::At(desk.registers[x])
+        }
+        8 if x != 15 && y == 0 && z == 0 => {
+            let address = desk.registers[x];
+            desk.registers[x] = address.wrapping_add(4);
+            Place::At(address)
+        }
+        _ => return Err(Alarm(14, number)),
+    })
+}
+
+/// The next operand's value.
+#[inline(always)]
+pub fn value<const ONE_LOOKUP: bool>(memory: &[u8], desk: &mut State, number: u32) -> Result<u32, Alarm> {
+    place::<ONE_LOOKUP>(memory, desk, number)?.read::<ONE_LOOKUP>(memory, desk)
+}
+
+/// The next operand as a place to write to: not form 1.
+#[inline(always)]
+pub fn target<const ONE_LOOKUP: bool>(memory: &[u8], desk: &mut State, number: u32) -> Result<Place, Alarm> {
+    match place::<ONE_LOOKUP>(memory, desk, number)? {
+        Place::Value(_) => Err(Alarm(14, number)),
+        target => Ok(target),
+    }
+}
+
+/// The next operand's address: not forms 1 and 2.
+#[inline(always)]
+pub fn address<const ONE_LOOKUP: bool>(memory: &[u8], desk: &mut State, number: u32) -> Result<u32, Alarm> {
+    match place::<ONE_LOOKUP>(memory, desk, number)? {
+        Place::At(address) => Ok(address),
+        Place::Value(_) | Place::Register(_) => Err(Alarm(14, number)),
+    }
+}
+
+impl Place {
+    #[inline(always)]
+    pub fn read<const ONE_LOOKUP: bool>(self, memory: &[u8], desk: &State) -> Result<u32, Alarm> {
+        match self {
+            Place::Value(z) => Ok(z),
+            Place::Register(x) => Ok(desk.registers[x]),
+            Place::At(address) => word::<ONE_LOOKUP>(memory, desk, address),
+        }
+    }
+
+    #[inline(always)]
+    pub fn write<const ONE_LOOKUP: bool>(self, memory: &mut [u8], desk: &mut State, value: u32) -> Result<(), Alarm> {
+        match self {
+            Place::Value(_) => Ok(()),
+            Place::Register(x) => {
+                desk.registers[x] = value;
+                Ok(())
+            }
+            Place::At(address) => store::<ONE_LOOKUP>(memory, desk, address, value),
+        }
+    }
+}

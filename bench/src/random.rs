@@ -1,0 +1,184 @@
+//! Random programs of the commands that plain Rust covers: every contender must leave the same after every step.
+
+use crate::contender::{Contender, CONTENDERS};
+use crate::plain;
+use crate::state::{State, KERNEL, RUNNING};
+use model::fault::Probe;
+use model::memory::{lookup, Access, Virtual};
+use model::rng::Rng;
+
+const LENGTH: usize = 8192;
+const SYSTEM_BLOCK: u32 = 0;
+const CONTROL_BLOCK: u32 = 256;
+const MAP: u32 = 4096;
+const PAGES: u32 = 16;
+
+/// An address near the end of a page, or anywhere.
+fn address(rng: &mut Rng) -> u32 {
+    match rng.below(4) {
+        0 => rng.word(),
+        1 => rng.below(LENGTH as u32 + 600),
+        _ => (512 * (1 + rng.below(PAGES))).wrapping_sub(rng.below(6)),
+    }
+}
+
+fn operand(rng: &mut Rng) -> [u8; 6] {
+    let form = if rng.chance(3) { rng.below(256) as u8 } else { rng.below(9) as u8 };
+    let (mut x, mut y, mut z) = (rng.below(16) as u8, rng.below(16) as u8, address(rng));
+    if rng.chance(50) {
+        z = rng.below(64);
+    }
+    // Mostly the fields that a form does not use are 0.
+    if !rng.chance(4) {
+        match form {
+            0 | 1 => (x, y) = (0, 0),
+            2 => (y, z) = (0, 0),
+            3 | 5 => y = 0,
+            7 | 8 => (y, z) = (0, 0),
+            _ => {}
+        }
+    }
+    let z = z.to_be_bytes();
+    [form, x << 4 | y, z[0], z[1], z[2], z[3]]
+}
+
+fn put(memory: &mut [u8], address: u32, word: u32) {
+    let at = address as usize;
+    memory[at..at + 4].copy_from_slice(&word.to_be_bytes());
+}
+
+/// Memory and state with a program somewhere in pages 2 to 4.
+fn case(rng: &mut Rng) -> (Vec<u8>, State) {
+    let mut memory = vec![0; LENGTH];
+    for byte in &mut memory {
+        if rng.chance(30) {
+            *byte = rng.word() as u8;
+        }
+    }
+    for cause in 0..32 {
+        let status = if rng.chance(5) { rng.word() } else { KERNEL | rng.below(256) };
+        put(&mut memory, SYSTEM_BLOCK + 8 * cause, 1024 + rng.below(1200));
+        put(&mut memory, SYSTEM_BLOCK + 8 * cause + 4, status);
+    }
+    for page in 0..PAGES {
+        let code = (2..5).contains(&page) && rng.chance(80);
+        let entry = match rng.below(24) {
+            _ if code => 0xC000_0000 | page,
+            0 => rng.below(0x8000_0000),
+            1 => 0xC000_0000 | rng.below(PAGES) | 1 << (24 + rng.below(6)),
+            2 => 0x8000_0000 | rng.below(PAGES),
+            3 => 0xC000_0000 | PAGES << rng.below(12),
+            _ => 0xC000_0000 | rng.below(PAGES),
+        };
+        put(&mut memory, MAP + 4 * page, entry);
+    }
+    let start = 1024 + rng.below(600);
+    let mut at = start as usize;
+    for _ in 0..12 {
+        let code = match rng.below(40) {
+            0 => rng.word() as u8,
+            1 => 0,
+            k => [0x12, 0x42, 0x4A, 0x66, 0x70 + rng.below(9) as u8][k as usize % 5],
+        };
+        memory[at] = code;
+        at += 1;
+        for _ in 0..if code < 0x70 { 2 } else { 1 } {
+            memory[at..at + 6].copy_from_slice(&operand(rng));
+            at += 6;
+        }
+    }
+    let mut registers = [0; 16];
+    registers.fill_with(|| address(rng));
+    registers[15] = start;
+    let state = State {
+        registers,
+        status: if rng.chance(50) { KERNEL } else { 0 } | rng.below(256),
+        map_base: MAP,
+        map_length: PAGES - rng.below(3),
+        system_block: SYSTEM_BLOCK,
+        control_block: CONTROL_BLOCK,
+        stopped: RUNNING,
+        pending: if rng.chance(5) { rng.word() as u16 & !1 } else { 0 },
+    };
+    (memory, state)
+}
+
+/// The command byte that a step of this desk would fetch, if it is to be had.
+fn next_byte(memory: &[u8], state: &State) -> Option<u8> {
+    let place = lookup(&Probe::right(), &state.to_model(), memory, Virtual(state.registers[15]), Access::Read).ok()?;
+    memory.get(place.0 as usize).copied()
+}
+
+#[test]
+fn random_programs() {
+    let mut rng = Rng::new(1);
+    let mut numbers = [0u64; 33];
+    for case_number in 0..40_000 {
+        let (mut memory, mut state) = case(&mut rng);
+        let first = (memory.clone(), state);
+        let mut steps = 0;
+        while steps < 12 && state.stopped == RUNNING {
+            if next_byte(&memory, &state).is_some_and(|b| model::code::decode(b).is_some() && !plain::covers(b)) {
+                break;
+            }
+            let before = (memory.clone(), state);
+            assert_eq!(Contender::Model.run(&mut memory, &mut state, 1), Ok(1));
+            for contender in CONTENDERS {
+                let (mut other_memory, mut other) = before.clone();
+                assert_eq!(contender.run(&mut other_memory, &mut other, 1), Ok(1), "{contender:?}");
+                assert_eq!(other, state, "case {case_number}, step {steps}: {contender:?} from {:X?}", before.1);
+                assert!(other_memory == memory, "case {case_number}, step {steps}: {contender:?}, memory");
+            }
+            steps += 1;
+        }
+        numbers[if state.stopped == RUNNING { 32 } else { state.stopped as usize % 32 }] += 1;
+        for contender in CONTENDERS {
+            let (mut other_memory, mut other) = first.clone();
+            assert_eq!(contender.run(&mut other_memory, &mut other, steps), Ok(steps), "{contender:?}");
+            assert_eq!(other, state, "case {case_number}, {steps} steps: {contender:?}");
+            assert!(other_memory == memory, "case {case_number}, {steps} steps: {contender:?}, memory");
+        }
+    }
+    // Every stop of a covered command was met: 8 in kernel mode, 12, 14, 16, HALT, and runs that go on.
+    for number in [0, 8, 12, 14, 16, 32] {
+        assert!(numbers[number] > 100, "stop {number}: {numbers:?}");
+    }
+}
+
+#[test]
+fn refusals() {
+    let mut rng = Rng::new(2);
+    let mut numbers = [0u64; 8];
+    for _ in 0..20_000 {
+        let (memory, good) = case(&mut rng);
+        let mut memory = memory[..if rng.chance(20) { rng.below(LENGTH as u32) as usize } else { LENGTH }].to_vec();
+        let mut state = good;
+        for _ in 0..1 + rng.below(2) {
+            let value = if rng.chance(50) { rng.word() } else { LENGTH as u32 - 4 * rng.below(80) };
+            match rng.below(7) {
+                0 => state.status = value,
+                1 => state.map_base = value,
+                2 => state.map_length = value,
+                3 => state.system_block = value,
+                4 => state.control_block = value,
+                5 => state.stopped = value,
+                _ => state.pending = value as u16,
+            }
+        }
+        let n = u64::from(rng.below(2));
+        let before = (memory.clone(), state);
+        let answer = Contender::Model.run(&mut memory, &mut state, n);
+        numbers[answer.err().unwrap_or(0) as usize] += 1;
+        if answer.is_ok() {
+            continue;
+        }
+        for contender in CONTENDERS {
+            let (mut other_memory, mut other) = before.clone();
+            assert_eq!(contender.run(&mut other_memory, &mut other, n), answer, "{contender:?} {:X?}", before.1);
+            assert!((other_memory, other) == before, "{contender:?}");
+        }
+    }
+    for number in [1, 2, 3, 4, 5, 7] {
+        assert!(numbers[number] > 100, "refusal {number}: {numbers:?}");
+    }
+}

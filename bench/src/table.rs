@@ -1,0 +1,117 @@
+//! The table.
+
+use crate::contender::{Contender, CONTENDERS};
+use crate::loops::{Kind, Mode, LENGTHS};
+use crate::measure::Measured;
+
+/// The value at a part of the way through the sorted values.
+fn quantile(values: &[f64], part: f64) -> f64 {
+    let mut values = values.to_vec();
+    values.sort_by(f64::total_cmp);
+    let at = part * (values.len() - 1) as f64;
+    let (low, high) = (values[at.floor() as usize], values[at.ceil() as usize]);
+    low + (high - low) * at.fract()
+}
+
+fn best(speeds: &[f64]) -> String {
+    let best = speeds.iter().copied().fold(0.0, f64::max);
+    format!("{:.1}", best / 1e6)
+}
+
+/// The median of the ratios within the rounds, with the quartiles.
+fn ratio(ours: &[f64], theirs: &[f64]) -> String {
+    let ratios: Vec<f64> = ours.iter().zip(theirs).map(|(a, b)| a / b).collect();
+    format!("{:.2} ({:.2}-{:.2})", quantile(&ratios, 0.5), quantile(&ratios, 0.25), quantile(&ratios, 0.75))
+}
+
+fn size(length: usize) -> String {
+    match length >> 10 {
+        kib if kib < 1024 => format!("{kib} KiB"),
+        kib => format!("{} MiB", kib >> 10),
+    }
+}
+
+impl Measured {
+    /// The speeds of a desk in the memory of this place in `LENGTHS`.
+    fn desk(&self, memory: usize, contender: Contender) -> &[f64] {
+        let at = CONTENDERS.iter().position(|c| *c == contender).expect("every contender is measured");
+        &self.desks[memory][at]
+    }
+
+    /// The faster simulator, by the median.
+    fn faster(&self) -> Option<usize> {
+        let median = |i: &usize| quantile(&self.simulators[*i], 0.5);
+        (0..self.simulators.len()).max_by(|a, b| median(a).total_cmp(&median(b)))
+    }
+
+    fn row(&self, memory: usize, simulators: &[&str]) -> [String; COLUMNS] {
+        let desk = |contender| self.desk(memory, contender);
+        let proved = desk(Contender::Proved);
+        let (simh, over_simh) = match self.faster() {
+            Some(i) => (format!("{} {}", best(&self.simulators[i]), simulators[i]), ratio(proved, &self.simulators[i])),
+            None => ("-".into(), "-".into()),
+        };
+        [
+            if self.which.kind == Kind::Register { "register" } else { "memory" }.into(),
+            if self.which.mode == Mode::Kernel { "kernel" } else { "user" }.into(),
+            size(LENGTHS[memory]),
+            best(proved),
+            best(desk(Contender::Bytewise)),
+            best(desk(Contender::Word)),
+            best(desk(Contender::Model)),
+            simh,
+            over_simh,
+            ratio(proved, desk(Contender::Word)),
+            ratio(proved, desk(Contender::Bytewise)),
+        ]
+    }
+}
+
+const COLUMNS: usize = 11;
+const HEAD: [(&str, usize); COLUMNS] = [
+    ("loop", 8),
+    ("mode", 6),
+    ("memory", 7),
+    ("proved", 6),
+    ("bytewise", 8),
+    ("word", 5),
+    ("model", 5),
+    ("simh", 11),
+    ("proved/simh", 16),
+    ("proved/word", 16),
+    ("proved/bytewise", 16),
+];
+
+fn line(cells: &[String; COLUMNS]) {
+    let cells: Vec<String> = cells.iter().zip(HEAD).map(|(cell, (_, width))| format!("{cell:>width$}")).collect();
+    println!("| {} |", cells.join(" | "));
+}
+
+pub fn print(loops: &[Measured], simulators: &[&str]) {
+    let rounds = loops.first().map_or(0, |measured| measured.desks[0][0].len());
+    println!("Million commands a second of CPU time, the best of {rounds} rounds.");
+    println!("proved/..: the ratio of speeds within a round, median (quartiles); above 1 the proved desk is faster.");
+    println!();
+    line(&HEAD.map(|(name, _)| name.into()));
+    line(&HEAD.map(|(_, width)| "-".repeat(width)));
+    for measured in loops {
+        for memory in 0..LENGTHS.len() {
+            line(&measured.row(memory, simulators));
+        }
+    }
+    println!();
+    println!("proved, {} against {}: the same ratio.", size(LENGTHS[1]), size(LENGTHS[0]));
+    for measured in loops {
+        let growth = ratio(measured.desk(1, Contender::Proved), measured.desk(0, Contender::Proved));
+        println!("    {:<10} {growth}", measured.which.name());
+    }
+    println!("bytewise, word: plain Rust that looks up every byte, or a word once. model: the Rust model in model/.");
+    match simulators {
+        [] => println!("simh is not installed (Debian: apt-get install simh), so its columns are empty."),
+        [one] => println!("simh: {one}; its mapping is on for user mode."),
+        _ => println!(
+            "simh: of {} the faster one on that loop; its mapping is on for user mode.",
+            simulators.join(" and ")
+        ),
+    }
+}
