@@ -12,8 +12,8 @@ use Rattle.access.specs.declared.Lookup.{Lookup}
 use Rattle.access.specs.declared.Lookup.the-variants as seat
 use Rattle.access.specs.declared.Got.{Got}
 use Rattle.access.specs.declared.Got.the-variants as value
-use Rattle.access.specs.declared.Fetched.{Fetched}
-use Rattle.access.specs.declared.Fetched.the-variants as raw
+use Rattle.access.specs.declared.OperandBytes.{OperandBytes}
+use Rattle.access.specs.declared.OperandBytes.the-variants as operandBytes
 use Rattle.access.specs.declared.Stored.{Stored}
 use Rattle.access.specs.declared.Stored.the-variants as stored
 
@@ -47,14 +47,14 @@ unfoldable pub valueAt : Memory → ℕ → ℕ → ℕ → ℕ
 valueAt m zero a acc = acc
 valueAt m (suc L) a acc = valueAt m L (a + 1) (acc * 256 + byteAt m a)
 
-abbrev pub fetchedAs : Fetched → OrAlarm Fields
-fetchedAs (raw.Fields f q z) = got (record { form = f; x = q / 16; y = q % 16; z = z })
-fetchedAs (raw.Alarm n x) = alarm n x
+abbrev pub operandBytesAs : OperandBytes → OrAlarm Fields
+operandBytesAs (operandBytes.Fields f q z) = got (record { form = f; x = q / 16; y = q % 16; z = z })
+operandBytesAs (operandBytes.Alarm n x) = alarm n x
 
 -- a register pair that was fetched is a byte
-abbrev pub PairOrAlarm : Fetched → Type 0
-PairOrAlarm (raw.Fields f q z) = q < 256
-PairOrAlarm (raw.Alarm n x) = Unit {0}
+abbrev pub PairOrAlarm : OperandBytes → Type 0
+PairOrAlarm (operandBytes.Fields f q z) = q < 256
+PairOrAlarm (operandBytes.Alarm n x) = Unit {0}
 
 -- how a store ends, with the memory that it leaves
 pub data StoreEnd : Type 0 where

@@ -6,7 +6,7 @@ ghost use lib.ListN.{length, take};
 ghost use Rattle.mi.specs.Words.{lengthOf, wordAt, bytesOf};
 ghost use Rattle.mi.specs.Map.{inFrame, mapped, realOf, viewBy, readBytes, located, writesFrom, realWritesFrom, commit};
 ghost use Rattle.mi.specs.Operands.{fieldsAt};
-ghost use Rattle.access.specs.Answers.{Fits, lookupAs, gotAs, SpanOrAlarm, ByteOrAlarm, fetchedAs, PairOrAlarm, valueAt, storedAs, storeEndOf};
+ghost use Rattle.access.specs.Answers.{Fits, lookupAs, gotAs, SpanOrAlarm, ByteOrAlarm, operandBytesAs, PairOrAlarm, valueAt, storedAs, storeEndOf};
 use mi::Access;
 use mi::FrameNumber;
 use mi::RealAddress;
@@ -26,7 +26,7 @@ pub enum Got {
 }
 
 // An operand's form byte, register pair and word, or an alarm and its argument.
-pub enum Fetched {
+pub enum OperandBytes {
     Fields(u32, u32, u32),
     Alarm(u32, u32),
 }
@@ -231,25 +231,25 @@ fn fields_bytewise(
     base: RealAddress,
     entries: u32,
     x: VirtualAddress,
-) -> Fetched
+) -> OperandBytes
     requires { ⌜ Fits base entries (now mem) ⌝ }
-    ensures value { λ r. ⌜ fetchedAs r ≡ fieldsAt (viewBy status base entries (now (mem .entry))) (x .0) ⌝ }
+    ensures value { λ r. ⌜ operandBytesAs r ≡ fieldsAt (viewBy status base entries (now (mem .entry))) (x .0) ⌝ }
     ensures small { λ r. ⌜ PairOrAlarm r ⌝ }
 {
     let a = read_bytewise(mem, status, base, entries, x, 1, Access::Fetch);
     match a {
-        Got::Alarm(n, z) => Fetched::Alarm(n, z),
+        Got::Alarm(n, z) => OperandBytes::Alarm(n, z),
         Got::Value(form) => {
             let second = VirtualAddress(std::num::wrapping_add_u32(x.0, 1));
             let b = read_bytewise(mem, status, base, entries, second, 1, Access::Fetch);
             match b {
-                Got::Alarm(n, z) => Fetched::Alarm(n, z),
+                Got::Alarm(n, z) => OperandBytes::Alarm(n, z),
                 Got::Value(pair) => {
                     let third = VirtualAddress(std::num::wrapping_add_u32(x.0, 2));
                     let c = read_bytewise(mem, status, base, entries, third, 4, Access::Fetch);
                     match c {
-                        Got::Alarm(n, z) => Fetched::Alarm(n, z),
-                        Got::Value(z) => Fetched::Fields(form, pair, z),
+                        Got::Alarm(n, z) => OperandBytes::Alarm(n, z),
+                        Got::Value(z) => OperandBytes::Fields(form, pair, z),
                     }
                 }
             }
@@ -264,9 +264,9 @@ pub fn fields(
     base: RealAddress,
     entries: u32,
     x: VirtualAddress,
-) -> Fetched
+) -> OperandBytes
     requires { ⌜ Fits base entries (now mem) ⌝ }
-    ensures value { λ r. ⌜ fetchedAs r ≡ fieldsAt (viewBy status base entries (now (mem .entry))) (x .0) ⌝ }
+    ensures value { λ r. ⌜ operandBytesAs r ≡ fieldsAt (viewBy status base entries (now (mem .entry))) (x .0) ⌝ }
     ensures small { λ r. ⌜ PairOrAlarm r ⌝ }
 {
     if x.0 % 512 <= 506 {
@@ -275,10 +275,10 @@ pub fn fields(
             Lookup::At(r) => {
                 let at = r.0 as usize;
                 let z = word(mem, at + 2);
-                return Fetched::Fields(wide(mem[at]), wide(mem[at + 1]), z);
+                return OperandBytes::Fields(wide(mem[at]), wide(mem[at + 1]), z);
             }
             Lookup::Alarm(k) => {
-                return Fetched::Alarm(k, x.0);
+                return OperandBytes::Alarm(k, x.0);
             }
         }
     }

@@ -9,8 +9,8 @@ ghost use Rattle.mi.specs.Operands.{virtual, operandAt, operandsOf};
 ghost use Rattle.access.specs.Answers.{Fits, gotAs};
 ghost use Rattle.operands.specs.Answers.{spotAs, SmallSpot, Behind, formed, valueFrom, tookAs, SmallTarget, SmallTook, takenWith, TakesAddress, TakesDestination, takenFrom, operandsAs, SmallOperands};
 ghost use Rattle.codes.specs.Rules.{rulesIn};
-use access::Fetched;
 use access::Got;
+use access::OperandBytes;
 use mi::RealAddress;
 use mi::Role;
 use mi::Size;
@@ -198,7 +198,7 @@ fn operand(
     let pc = regs[15];
     let f = access::fields(mem, status, base, entries, VirtualAddress(pc));
     match f {
-        Fetched::Fields(form, pair, z) => {
+        OperandBytes::Fields(form, pair, z) => {
             regs[15] = plus(pc, 6);
             by_form(
                 mem,
@@ -214,7 +214,7 @@ fn operand(
                 z,
             )
         }
-        Fetched::Alarm(n, a) => Spot::Alarm(n, a),
+        OperandBytes::Alarm(n, a) => Spot::Alarm(n, a),
     }
 }
 
