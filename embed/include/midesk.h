@@ -77,7 +77,7 @@ extern "C" {
 #define MIDESK_REFUSED_LENGTH 1u        /* the memory length is not allowed */
 #define MIDESK_REFUSED_SYSTEM_BLOCK 2u  /* the system block's address is no multiple of 4, or the block does not fit */
 #define MIDESK_REFUSED_CONTROL_BLOCK 3u /* the control block's address is no multiple of 4, or the block does not fit */
-#define MIDESK_REFUSED_MAP 4u           /* the map base is no multiple of 4, or the map ends past the memory */
+#define MIDESK_REFUSED_MAP 4u           /* the map base is no multiple of 4, or the map (empty too) ends past memory */
 #define MIDESK_REFUSED_STATUS 5u        /* status has an undefined bit, or the pending set has level 0's bit */
 #define MIDESK_REFUSED_LEVEL 6u         /* a requested level is 0 or above 15 */
 #define MIDESK_REFUSED_STOPPED 7u       /* a step or run was wanted of a stopped desk */

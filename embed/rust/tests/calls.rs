@@ -155,6 +155,9 @@ fn refused_calls_change_nothing() {
     for (spoil, refusal) in spoils {
         let mut memory = memory(&[0x14, 2, 0x10, 0, 0, 0, 0]);
         let mut desk = Desk::fresh(&memory, 0, 256, 512).unwrap();
+        for i in 0..15 {
+            desk.set_register(i, 0x0123_4567 * (i as u32 + 1));
+        }
         spoil(&mut desk);
         let (before, bytes) = (desk.clone(), memory.clone());
         assert_eq!(desk.step(&mut memory), Err(refusal));
