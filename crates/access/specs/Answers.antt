@@ -9,7 +9,7 @@ use Rattle.mi.specs.Alarms.{OrAlarm, got, alarm}
 use Rattle.mi.specs.Map.{Found, foundAt, RealWrites, commit}
 use Rattle.mi.specs.Operands.{Fields}
 use Rattle.access.specs.declared.Lookup.{Lookup}
-use Rattle.access.specs.declared.Lookup.the-variants as seat
+use Rattle.access.specs.declared.Lookup.the-variants as lookup
 use Rattle.access.specs.declared.Got.{Got}
 use Rattle.access.specs.declared.Got.the-variants as value
 use Rattle.access.specs.declared.OperandBytes.{OperandBytes}
@@ -25,8 +25,8 @@ pub record Fits (base : RealAddress) (entries : ℕ) (m : Memory) : Type 0 where
 
 -- a lookup of address x in memory m
 abbrev pub lookupAs : Memory → VirtualAddress → Lookup → OrAlarm Found
-lookupAs m x (seat.At a) = got (foundAt m a)
-lookupAs m x (seat.Alarm n) = alarm n (x .0)
+lookupAs m x (lookup.At a) = got (foundAt m a)
+lookupAs m x (lookup.Alarm n) = alarm n (x .0)
 
 abbrev pub gotAs : Got → OrAlarm ℕ
 gotAs (value.Value n) = got n
