@@ -13,17 +13,17 @@ use Rattle.access.specs.Answers.{Fits, lookupAs}
 use Rattle.access.specs.declared.Lookup.{Lookup}
 use Rattle.access.specs.declared.Lookup.the-variants.{At, Alarm}
 
-seat-hit : (s : ℕ) (base : RealAddress) (entries : ℕ) (m : Memory) (x : VirtualAddress) (w : Access) (q : Lookup) (a : RealAddress)
+look-hit : (s : ℕ) (base : RealAddress) (entries : ℕ) (m : Memory) (x : VirtualAddress) (w : Access) (q : Lookup) (a : RealAddress)
     → q ≡ At a → lookupAs m x q ≡ viewBy s base entries m x w → viewBy s base entries m x w ≡ got (foundAt m a)
-seat-hit s base entries m x w q a e h = sym h ∙ rw e
+look-hit s base entries m x w q a e h = sym h ∙ rw e
 
-pub seat-inside : (s : ℕ) (base : RealAddress) (entries : ℕ) (m : Memory) (x : VirtualAddress) (w : Access) (q : Lookup) (a : RealAddress)
+pub look-inside : (s : ℕ) (base : RealAddress) (entries : ℕ) (m : Memory) (x : VirtualAddress) (w : Access) (q : Lookup) (a : RealAddress)
     → q ≡ At a → lookupAs m x q ≡ viewBy s base entries m x w → a .0 < length m
-seat-inside s base entries m x w q a e h = found-inside s base entries m x w a (seat-hit s base entries m x w q a e h)
+look-inside s base entries m x w q a e h = found-inside s base entries m x w a (look-hit s base entries m x w q a e h)
 
 module _ {s : ℕ} {base : RealAddress} {entries : ℕ} {m : Memory} {x : VirtualAddress} {w : Access} {q : Lookup} where
-  pub seat-found : {a : RealAddress} → q ≡ At a → lookupAs m x q ≡ viewBy s base entries m x w → Fits base entries m → x .0 < 0x1_0000_0000 → Finds s base entries m x w a
-  seat-found {a} e h fits small = record { small = small; whole = fits .whole; hit = seat-hit s base entries m x w q a e h }
+  pub look-found : {a : RealAddress} → q ≡ At a → lookupAs m x q ≡ viewBy s base entries m x w → Fits base entries m → x .0 < 0x1_0000_0000 → Finds s base entries m x w a
+  look-found {a} e h fits small = record { small = small; whole = fits .whole; hit = look-hit s base entries m x w q a e h }
 
-  pub seat-alarm : {n : ℕ} → q ≡ Alarm n → lookupAs m x q ≡ viewBy s base entries m x w → x .0 < 0x1_0000_0000 → Alarms s base entries m x w n
-  seat-alarm e h small = record { small = small; miss = sym h ∙ rw e }
+  pub look-alarm : {n : ℕ} → q ≡ Alarm n → lookupAs m x q ≡ viewBy s base entries m x w → x .0 < 0x1_0000_0000 → Alarms s base entries m x w n
+  look-alarm e h small = record { small = small; miss = sym h ∙ rw e }

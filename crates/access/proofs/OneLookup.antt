@@ -1,5 +1,5 @@
 -- What one lookup tells of the bytes in its page: a value, and the six bytes of an operand.
-use Prim.Native.Nat.{ℕ, zero, suc, _+_, _*_, _/_, _%_, _≤_}
+use Prim.Native.Nat.{ℕ, zero, suc, _+_, _-_, _*_, _/_, _%_, _≤_, _<_}
 use mathlib.Core.Path.{_≡_, refl, sym, ap, _∙_}
 use native.Mathlib.Nat.{add-zero}
 use native.Mathlib.Omega.{arith}
@@ -52,6 +52,14 @@ module _ {s : ℕ} {base : RealAddress} {entries : ℕ} {m : Memory} {x : Virtua
 
   pub read-page : (L : ℕ) → x .0 % 512 + L ≤ 512 → readBytes (viewBy s base entries m) w L x ≡ got (valueAt m L (a .0) 0)
   read-page L l = rw (add-zero (x .0), add-zero (a .0)) at (read-from L 0 0 (omega arith))
+
+-- ---- A byte later in the page
+
+module _ {s : ℕ} {base : RealAddress} {entries : ℕ} {m : Memory} {start : VirtualAddress} {w : Access} {a : RealAddress} (f : Finds s base entries m start w a) where
+  pub finds-later : (x : VirtualAddress) → x .0 < 0x1_0000_0000 → start .0 ≤ x .0 → start .0 % 512 + (x .0 - start .0) < 512 → Finds s base entries m x w (record { 0 = a .0 + (x .0 - start .0) })
+  finds-later x small l p =
+      let e : wrap (start .0 + (x .0 - start .0)) ≡ x .0 = omega arith in
+      record { small = small; whole = f .whole; hit = rw e at (found-page f (x .0 - start .0) p) }
 
 -- ---- The six bytes of an operand
 

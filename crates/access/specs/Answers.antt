@@ -4,14 +4,17 @@ use mathlib.Core.Path.{_≡_}
 use lib.ListN.{length}
 use Rattle.mi.specs.declared.RealAddress.{RealAddress}
 use Rattle.mi.specs.declared.VirtualAddress.{VirtualAddress}
-use Rattle.mi.specs.Words.{Memory, byteAt, span}
+use Rattle.mi.specs.declared.Access.the-variants.{Fetch}
+use Rattle.mi.specs.Words.{Memory, byteAt, wordAt, span}
 use Rattle.mi.specs.Alarms.{OrAlarm, got, alarm}
-use Rattle.mi.specs.Map.{Found, foundAt, RealWrites, commit}
+use Rattle.mi.specs.Map.{Found, foundAt, View, RealWrites, commit}
 use Rattle.mi.specs.Operands.{Fields}
 use Rattle.access.specs.declared.Lookup.{Lookup}
 use Rattle.access.specs.declared.Lookup.the-variants as lookup
 use Rattle.access.specs.declared.Got.{Got}
 use Rattle.access.specs.declared.Got.the-variants as value
+use Rattle.access.specs.declared.CommandByte.{CommandByte}
+use Rattle.access.specs.declared.CommandByte.the-variants as commandByte
 use Rattle.access.specs.declared.OperandBytes.{OperandBytes}
 use Rattle.access.specs.declared.OperandBytes.the-variants as operandBytes
 use Rattle.access.specs.declared.Stored.{Stored}
@@ -37,10 +40,22 @@ abbrev pub SpanOrAlarm : ℕ → Got → Type 0
 SpanOrAlarm L (value.Value n) = n < span L
 SpanOrAlarm L (value.Alarm n x) = Unit {0}
 
--- a value that was fetched is a byte
-abbrev pub ByteOrAlarm : Got → Type 0
-ByteOrAlarm (value.Value n) = n < 256
-ByteOrAlarm (value.Alarm n x) = Unit {0}
+-- a command byte, wherever it lies
+abbrev pub commandByteAs : CommandByte → OrAlarm ℕ
+commandByteAs (commandByte.Byte b a) = got b
+commandByteAs (commandByte.Alarm n x) = alarm n x
+
+abbrev pub ByteOrAlarm : CommandByte → Type 0
+ByteOrAlarm (commandByte.Byte b a) = b < 256
+ByteOrAlarm (commandByte.Alarm n x) = Unit {0}
+
+-- the fetch at address x finds place a of memory m
+pub record FetchedFrom (v : View) (m : Memory) (x : VirtualAddress) (a : RealAddress) : Type 0 where
+  pub hit : v x Fetch ≡ got (foundAt m a)
+
+abbrev pub PlaceOrAlarm : View → Memory → VirtualAddress → CommandByte → Type 0
+PlaceOrAlarm v m x (commandByte.Byte b a) = FetchedFrom v m x a
+PlaceOrAlarm v m x (commandByte.Alarm n y) = Unit {0}
 
 -- the L bytes of memory from place a on as one number, highest first, after those that make up acc
 unfoldable pub valueAt : Memory → ℕ → ℕ → ℕ → ℕ
@@ -50,6 +65,10 @@ valueAt m (suc L) a acc = valueAt m L (a + 1) (acc * 256 + byteAt m a)
 abbrev pub operandBytesAs : OperandBytes → OrAlarm Fields
 operandBytesAs (operandBytes.Fields f q z) = got (record { form = f; x = q / 16; y = q % 16; z = z })
 operandBytesAs (operandBytes.Alarm n x) = alarm n x
+
+-- the six bytes from place a of memory on
+abbrev pub operandBytesAt : Memory → ℕ → OperandBytes
+operandBytesAt m a = operandBytes.Fields (byteAt m a) (byteAt m (a + 1)) (wordAt m (a + 2))
 
 -- a register pair that was fetched is a byte
 abbrev pub PairOrAlarm : OperandBytes → Type 0

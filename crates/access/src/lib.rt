@@ -6,7 +6,7 @@ ghost use lib.ListN.{length, take};
 ghost use Rattle.mi.specs.Words.{lengthOf, wordAt, bytesOf};
 ghost use Rattle.mi.specs.Map.{inFrame, mapped, realOf, viewBy, readBytes, located, writesFrom, realWritesFrom, commit};
 ghost use Rattle.mi.specs.Operands.{fieldsAt};
-ghost use Rattle.access.specs.Answers.{Fits, lookupAs, gotAs, SpanOrAlarm, ByteOrAlarm, operandBytesAs, PairOrAlarm, valueAt, storedAs, storeEndOf};
+ghost use Rattle.access.specs.Answers.{Fits, lookupAs, gotAs, SpanOrAlarm, commandByteAs, ByteOrAlarm, FetchedFrom, PlaceOrAlarm, operandBytesAs, operandBytesAt, PairOrAlarm, valueAt, storedAs, storeEndOf};
 use mi::Access;
 use mi::FrameNumber;
 use mi::RealAddress;
@@ -22,6 +22,12 @@ pub enum Lookup {
 // A value, or an alarm and its argument.
 pub enum Got {
     Value(u32),
+    Alarm(u32, u32),
+}
+
+// A command byte and where it lies, or an alarm and its argument.
+pub enum CommandByte {
+    Byte(u32, RealAddress),
     Alarm(u32, u32),
 }
 
@@ -198,7 +204,7 @@ pub fn read(
             }
         }
     }
-    // Rare. The copy of the slice and the match keep this call's needs out of the path above.
+    // The slice and the answer of this call alone go through memory.
     let all = mem;
     let w = read_bytewise(all, status, base, entries, x, width as usize, Access::Read);
     match w {
@@ -208,20 +214,37 @@ pub fn read(
 }
 
 // A command byte.
-pub fn fetch(mem: &[u8], status: u32, base: RealAddress, entries: u32, x: VirtualAddress) -> Got
+pub fn fetch(
+    mem: &[u8],
+    status: u32,
+    base: RealAddress,
+    entries: u32,
+    x: VirtualAddress,
+) -> CommandByte
     requires { ⌜ Fits base entries (now mem) ⌝ }
-    ensures value { λ r. ⌜ gotAs r ≡ readBytes (viewBy status base entries (now (mem .entry))) Access.Fetch 1 x ⌝ }
+    ensures value { λ r. ⌜ commandByteAs r ≡ readBytes (viewBy status base entries (now (mem .entry))) Access.Fetch 1 x ⌝ }
     ensures small { λ r. ⌜ ByteOrAlarm r ⌝ }
+    ensures found { λ r. ⌜ PlaceOrAlarm (viewBy status base entries (now (mem .entry))) (now (mem .entry)) x r ⌝ }
 {
     let s = look(mem, status, base, entries, x, Access::Fetch);
     match s {
         Lookup::At(r) => {
             let at = r.0 as usize;
             let b = wide(mem[at]);
-            Got::Value(b)
+            CommandByte::Byte(b, r)
         }
-        Lookup::Alarm(k) => Got::Alarm(k, x.0),
+        Lookup::Alarm(k) => CommandByte::Alarm(k, x.0),
     }
+}
+
+// The six bytes from a place of memory on.
+fn fields_at(mem: &[u8], at: usize) -> OperandBytes
+    requires { ⌜ at + 6 ≤ length (now mem) ⌝ }
+    ensures value { λ r. ⌜ r ≡ operandBytesAt (now (mem .entry)) at ⌝ }
+    ensures small { λ r. ⌜ PairOrAlarm r ⌝ }
+{
+    let z = word(mem, at + 2);
+    OperandBytes::Fields(wide(mem[at]), wide(mem[at + 1]), z)
 }
 
 // The six bytes of an operand, byte by byte.
@@ -257,8 +280,8 @@ fn fields_bytewise(
     }
 }
 
-// The six bytes of an operand.
-pub fn fields(
+// The six bytes of an operand, looked up.
+fn fields_anew(
     mem: &[u8],
     status: u32,
     base: RealAddress,
@@ -273,9 +296,7 @@ pub fn fields(
         let s = look(mem, status, base, entries, x, Access::Fetch);
         match s {
             Lookup::At(r) => {
-                let at = r.0 as usize;
-                let z = word(mem, at + 2);
-                return OperandBytes::Fields(wide(mem[at]), wide(mem[at + 1]), z);
+                return fields_at(mem, r.0 as usize);
             }
             Lookup::Alarm(k) => {
                 return OperandBytes::Alarm(k, x.0);
@@ -283,6 +304,35 @@ pub fn fields(
         }
     }
     fields_bytewise(mem, status, base, entries, x)
+}
+
+// The six bytes of an operand, after a byte that was fetched: in that byte's page its lookup answers for them too.
+pub fn fields(
+    mem: &[u8],
+    status: u32,
+    base: RealAddress,
+    entries: u32,
+    x: VirtualAddress,
+    start: VirtualAddress,
+    found: RealAddress,
+) -> OperandBytes
+    requires { ⌜ Fits base entries (now mem) × FetchedFrom (viewBy status base entries (now mem)) (now mem) start found ⌝ }
+    ensures value { λ r. ⌜ operandBytesAs r ≡ fieldsAt (viewBy status base entries (now (mem .entry))) (x .0) ⌝ }
+    ensures small { λ r. ⌜ PairOrAlarm r ⌝ }
+{
+    if start.0 <= x.0 {
+        let k = x.0 - start.0;
+        if start.0 % 512 + k <= 506 {
+            return fields_at(mem, (found.0 + k) as usize);
+        }
+    }
+    // The slice and the answer of this call alone go through memory.
+    let all = mem;
+    let f = fields_anew(all, status, base, entries, x);
+    match f {
+        OperandBytes::Fields(form, pair, z) => OperandBytes::Fields(form, pair, z),
+        OperandBytes::Alarm(k, a) => OperandBytes::Alarm(k, a),
+    }
 }
 
 // ---- Stores: every byte is looked up, in the memory from the start, before any is written.

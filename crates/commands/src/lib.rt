@@ -12,6 +12,7 @@ ghost use Rattle.access.specs.Answers.{Fits};
 ghost use Rattle.codes.specs.Rules.{tableOf};
 ghost use Rattle.operands.specs.Answers.{SmallTarget};
 ghost use Rattle.commands.specs.Ends.{outAs, doneEnd, poppedDone, returnedDone, actEnd, execOf, AfterStore};
+use access::CommandByte;
 use access::Got;
 use access::Stored;
 use codes::Asked;
@@ -239,16 +240,18 @@ pub fn exec(
     ensures { λ r. ⌜ outAs r (now (regs .exit)) (now (mem .exit)) ≡ execOf status base entries (now (regs .entry)) (now (mem .entry)) ⌝ }
 {
     let pc = regs[15];
-    let c = access::fetch(mem, status, base, entries, VirtualAddress(pc));
+    let start = VirtualAddress(pc);
+    let c = access::fetch(mem, status, base, entries, start);
     match c {
-        Got::Alarm(n, a) => Out::Alarm(n, a),
-        Got::Value(b) => {
+        CommandByte::Alarm(n, a) => Out::Alarm(n, a),
+        CommandByte::Byte(b, found) => {
             let no = codes::forbidden(b, status);
             if no {
                 return Out::Alarm(13, b);
             }
             regs[15] = operands::plus(pc, 1);
-            let o = operands::take_all(mem, regs, status, base, entries, codes::rules_of(table, b));
+            let rules = codes::rules_of(table, b);
+            let o = operands::take_all(mem, regs, status, base, entries, start, found, rules);
             match o {
                 Operands::Alarm(n, a) => Out::Alarm(n, a),
                 Operands::Ready(x, y, target) => {

@@ -3,6 +3,7 @@ use Prim.Native.Nat.{ℕ, _+_, _≤_}
 use lib.ListN.{length}
 use Rattle.mi.specs.declared.Desk.{Desk}
 use Rattle.mi.specs.declared.StepReply.{StepReply}
+use Rattle.mi.specs.declared.StepAnswer.{StepAnswer}
 use Rattle.mi.specs.declared.StepAnswer.the-variants as stepAnswer
 use Rattle.mi.specs.declared.RunReply.{RunReply}
 use Rattle.mi.specs.Words.{pick, Memory}
@@ -19,6 +20,9 @@ pub record Blocks (d : Desk) (m : Memory) : Type 0 where
 
 abbrev pub stepped : StepReply → Memory → Stepped
 stepped r m = record { reply = r; memory = m }
+
+abbrev pub steppedTo : StepAnswer → Desk → Memory → Stepped
+steppedTo a d m = stepped (record { answer = a; desk = d }) m
 
 abbrev pub ranAs : RunReply → Memory → Ran
 ranAs r m = record { reply = r; memory = m }

@@ -5,9 +5,9 @@ ghost use Prim.Native.Nat.{_+_, _^_, _≤_};
 ghost use lib.ListN.{length};
 ghost use Rattle.mi.specs.State.{allowedLength, validStatus, isPending, withLevel, withoutLevel, deskWith};
 ghost use Rattle.mi.specs.Steps.{enters, stop as stopOf, resume as resumeOf, oneStep};
-ghost use Rattle.mi.specs.Calls.{refusalNumber, zeroDesk, freshRefusal, freshOf, stepRefusal, stepOf, requestOf, stepsOf, runOf};
+ghost use Rattle.mi.specs.Calls.{refusalNumber, zeroDesk, freshRefusal, freshOf, stepRefusal, stepOf, requestOf, ran, stepsOf, runOf};
 ghost use Rattle.commands.specs.Ends.{outAs};
-ghost use Rattle.desk.specs.Replies.{replyOf, stepped, shown, enteredBy, alarmedBy, concludedEnd, interruptOf, ranAs, Blocks};
+ghost use Rattle.desk.specs.Replies.{replyOf, stepped, steppedTo, shown, enteredBy, alarmedBy, concludedEnd, interruptOf, ranAs, Blocks};
 use commands::Out;
 use mi::Answer;
 use mi::Desk;
@@ -355,25 +355,6 @@ fn enter_level(d: Desk, mem: &mut [u8], level: u32) -> StepReply
     enter(d, mem, 16 + level, registers, level, left)
 }
 
-// The level that is due is entered, or a command is executed.
-fn one_step(d: Desk, mem: &mut [u8]) -> StepReply
-    requires { ⌜ stepRefusal d (length (now mem)) ≡ Answer.Accepted ⌝ }
-    ensures { λ r. ⌜ stepped r (now (mem .exit)) ≡ shown (oneStep d (now (mem .entry))) (now (mem .entry)) ⌝ }
-{
-    let level = interrupt(d.status, d.pending);
-    if 0 < level {
-        return enter_level(d, mem, level);
-    }
-    let mut work = d.registers;
-    let base = d.base;
-    let table = codes::table();
-    let out = commands::exec(mem, &mut work, d.status, base, d.entries, &table);
-    match out {
-        Out::Done(s) => done(d, work, s),
-        _ => conclude(d, mem, work, out),
-    }
-}
-
 // The desk, running, with these registers and this status.
 fn running(d: Desk, registers: [u32; 16], status: u32) -> Desk
     ensures { λ r. ⌜ r ≡ deskWith d registers status (d .pending) Mark.Running ⌝ }
@@ -381,22 +362,28 @@ fn running(d: Desk, registers: [u32; 16], status: u32) -> Desk
     with(d, registers, status, d.pending, Mark::Running)
 }
 
-fn ran(steps: u64, desk: Desk) -> RunReply
-    ensures { λ r. ⌜ r ≡ record { answer = Answer.Accepted; steps = steps; desk = desk } ⌝ }
+// What some steps came to: their number, what the last one came to, and the desk.
+struct Progress {
+    count: u64,
+    last: StepAnswer,
+    desk: Desk,
+}
+
+fn made(count: u64, last: StepAnswer, desk: Desk) -> Progress
+    ensures { λ r. ⌜ r ≡ record { count = count; last = last; desk = desk } ⌝ }
 {
-    RunReply {
-        answer: Answer::Accepted,
-        steps,
-        desk,
-    }
+    Progress { count, last, desk }
 }
 
 // At most n steps, up to a stop. While commands end quietly, registers and status stay in locals; all else goes through the whole desk.
-fn steps(d: Desk, mem: &mut [u8], n: u64) -> RunReply
+// The only call of `exec` is here, so that it becomes part of the loop; one step is a run of one.
+fn steps(d: Desk, mem: &mut [u8], n: u64) -> Progress
     requires { ⌜ stepRefusal d (length (now mem)) ≡ Answer.Accepted ⌝ }
-    ensures { λ r. ⌜ ranAs r (now (mem .exit)) ≡ stepsOf n 0 d (now (mem .entry)) ⌝ }
+    ensures all { λ r. ⌜ ran Answer.Accepted (r .count) (r .desk) (now (mem .exit)) ≡ stepsOf n 0 d (now (mem .entry)) ⌝ }
+    ensures one { λ r. ⌜ (n ≡ 1 → steppedTo (r .last) (r .desk) (now (mem .exit)) ≡ shown (oneStep d (now (mem .entry))) (now (mem .entry))) ⌝ }
 {
     let mut desk = d;
+    let mut last = StepAnswer::Done;
     let mut regs = d.registers;
     let mut status = d.status;
     let mut count: u64 = 0;
@@ -407,6 +394,7 @@ fn steps(d: Desk, mem: &mut [u8], n: u64) -> RunReply
         if 0 < level {
             let reply = enter_level(running(desk, regs, status), mem, level);
             desk = reply.desk;
+            last = reply.answer;
         } else {
             let saved = regs;
             let base = desk.base;
@@ -414,11 +402,13 @@ fn steps(d: Desk, mem: &mut [u8], n: u64) -> RunReply
             match out {
                 Out::Done(s) => {
                     status = s;
+                    last = StepAnswer::Done;
                     continue;
                 }
                 _ => {
                     let reply = conclude(running(desk, saved, status), mem, regs, out);
                     desk = reply.desk;
+                    last = reply.answer;
                 }
             }
         }
@@ -427,10 +417,10 @@ fn steps(d: Desk, mem: &mut [u8], n: u64) -> RunReply
         let mark = desk.mark;
         match mark {
             Mark::Running => {}
-            Mark::Stopped(_) => return ran(count, desk),
+            Mark::Stopped(_) => return made(count, last, desk),
         }
     }
-    ran(count, running(desk, regs, status))
+    made(count, last, running(desk, regs, status))
 }
 
 // ---- The calls
@@ -445,7 +435,12 @@ pub fn step(d: Desk, mem: &mut [u8]) -> StepReply
             answer: StepAnswer::Refused(k),
             desk: d,
         },
-        Answer::Accepted => one_step(d, mem),
+        Answer::Accepted => {
+            let p = steps(d, mem, 1);
+            let answer = p.last;
+            let desk = p.desk;
+            StepReply { answer, desk }
+        }
     }
 }
 
@@ -460,6 +455,14 @@ pub fn run(d: Desk, mem: &mut [u8], n: u64) -> RunReply
             steps: 0,
             desk: d,
         },
-        Answer::Accepted => steps(d, mem, n),
+        Answer::Accepted => {
+            let p = steps(d, mem, n);
+            let desk = p.desk;
+            RunReply {
+                answer: Answer::Accepted,
+                steps: p.count,
+                desk,
+            }
+        }
     }
 }

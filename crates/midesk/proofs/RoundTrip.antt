@@ -20,7 +20,7 @@ use Rattle.mi.specs.Calls.{stepRefusal, requestRefusal, unchanged, unlessRefuse
 use Rattle.mi.proofs.Bytes.{bytes-length, bytes-joined, word-joined}
 use Rattle.mi.proofs.Blocks.{words-length}
 use Rattle.desk.proofs.Runs as turns
-use Rattle.midesk.specs.Layout.{runs, markNumber, markOf, wordsOf, packed, unpacked}
+use Rattle.midesk.specs.Layout.{stateBytes, runs, markNumber, markOf, wordsOf, packed, unpacked}
 use Rattle.midesk.specs.Exports.{repliedOf, requestCall, stepLeft, stepCall, runLeft, runCall}
 
 -- ---- The mark
@@ -71,7 +71,7 @@ module _ (b : List ℕ) (small : (i : ℕ) → byteAt b i < 256) where
       let e : 4 * suc k ≡ 4 + 4 * k = omega arith in
       rw (e, take-add 4 (4 * k) (drop a b), drop-drop 4 a b, word-bytes a (omega arith), words-bytes k (a + 4) (omega arith))
 
-  pending-bytes : length b ≡ 90 → bytesOf 2 (byteAt b 88 * 256 + byteAt b 89) ≡ drop 88 b
+  pending-bytes : length b ≡ stateBytes → bytesOf 2 (byteAt b 88 * 256 + byteAt b 89) ≡ drop 88 b
   unfolding bytesOf
   pending-bytes l =
       let v : ℕ = byteAt b 88 * 256 + byteAt b 89 in
@@ -81,7 +81,7 @@ module _ (b : List ℕ) (small : (i : ℕ) → byteAt b i < 256) where
       rw (drop-cons b 88 0 (omega arith), drop-cons b 89 0 (omega arith), none, e, f)
 
 -- the bytes of the state that some bytes hold are those bytes
-pub packed-unpacked : (b : List ℕ) → length b ≡ 90 → ((i : ℕ) → byteAt b i < 256) → packed (unpacked b) ≡ b
+pub packed-unpacked : (b : List ℕ) → length b ≡ stateBytes → ((i : ℕ) → byteAt b i < 256) → packed (unpacked b) ≡ b
 unfolding packed
 packed-unpacked b l small =
     let p : bytesOf 2 ((unpacked b) .pending) ≡ drop 88 b = (unfold unpacked in pending-bytes b small l) in
@@ -152,7 +152,7 @@ module _ (d : Desk) (h : Held d) where
 
 -- ---- Refused calls
 
-module _ (b : List ℕ) (l : length b ≡ 90) (small : (i : ℕ) → byteAt b i < 256) where
+module _ (b : List ℕ) (l : length b ≡ stateBytes) (small : (i : ℕ) → byteAt b i < 256) where
   -- a refused step leaves the state's bytes and the memory
   pub refused-step : (m : Memory) (k : Refusal) → stepRefusal (unpacked b) (length m) ≡ Refused k → ((stepCall b m) .state ≡ b) × ((stepCall b m) .memory ≡ m)
   unfolding stepCall stepLeft

@@ -6,7 +6,7 @@ ghost use lib.Dec.{eqb};
 ghost use Rattle.mi.specs.Words.{pick, lengthOf, wrap, raised, lowered};
 ghost use Rattle.mi.specs.Map.{viewBy};
 ghost use Rattle.mi.specs.Operands.{virtual, operandAt, operandsOf};
-ghost use Rattle.access.specs.Answers.{Fits, gotAs};
+ghost use Rattle.access.specs.Answers.{Fits, gotAs, FetchedFrom};
 ghost use Rattle.operands.specs.Answers.{spotAs, SmallSpot, Behind, formed, valueFrom, tookAs, SmallTarget, SmallTook, takenWith, TakesAddress, TakesDestination, takenFrom, operandsAs, SmallOperands};
 ghost use Rattle.codes.specs.Rules.{rulesIn};
 use access::Got;
@@ -181,22 +181,24 @@ fn by_form(
     }
 }
 
-// The operand whose six bytes begin at R15.
+// The operand whose six bytes begin at R15, of the command whose byte was fetched from start and lies at found.
 fn operand(
     mem: &[u8],
     regs: &mut [u32; 16],
     status: u32,
     base: RealAddress,
     entries: u32,
+    start: VirtualAddress,
+    found: RealAddress,
     size: Size,
     place: u32,
 ) -> Spot
-    requires { ⌜ Fits base entries (now mem) ⌝ }
+    requires { ⌜ Fits base entries (now mem) × FetchedFrom (viewBy status base entries (now mem)) (now mem) start found ⌝ }
     ensures spot { λ r. ⌜ spotAs r (now (regs .exit)) ≡ operandAt (viewBy status base entries (now (mem .entry))) place (lengthOf size) (now (regs .entry)) ⌝ }
     ensures small { λ r. ⌜ SmallSpot r ⌝ }
 {
     let pc = regs[15];
-    let f = access::fields(mem, status, base, entries, VirtualAddress(pc));
+    let f = access::fields(mem, status, base, entries, VirtualAddress(pc), start, found);
     match f {
         OperandBytes::Fields(form, pair, z) => {
             regs[15] = plus(pc, 6);
@@ -327,16 +329,18 @@ fn chosen(place: u32, own: u32, new: u32, old: u32) -> u32
     if place == own { new } else { old }
 }
 
-// The operands that follow the command byte, from R15 on.
+// The operands that follow the command byte, from R15 on; the byte was fetched from start and lies at found.
 pub fn take_all(
     mem: &[u8],
     regs: &mut [u32; 16],
     status: u32,
     base: RealAddress,
     entries: u32,
+    start: VirtualAddress,
+    found: RealAddress,
     rules: u32,
 ) -> Operands
-    requires { ⌜ Fits base entries (now mem) × (rules < 65536) ⌝ }
+    requires { ⌜ Fits base entries (now mem) × FetchedFrom (viewBy status base entries (now mem)) (now mem) start found × (rules < 65536) ⌝ }
     ensures value { λ r. ⌜ operandsAs r (now (regs .exit)) ≡ operandsOf (viewBy status base entries (now (mem .entry))) (rulesIn rules) (now (regs .entry)) ⌝ }
     ensures small { λ r. ⌜ SmallOperands r ⌝ }
 {
@@ -348,7 +352,7 @@ pub fn take_all(
     while 0 < rest {
         let size = codes::size_in(rest);
         let role = codes::role_in(rest);
-        let spot = operand(mem, regs, status, base, entries, size, place);
+        let spot = operand(mem, regs, status, base, entries, start, found, size, place);
         let t = take(mem, regs, status, base, entries, size, role, place, spot);
         match t {
             Took::Got(n, goes) => {

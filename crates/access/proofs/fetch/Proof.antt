@@ -4,7 +4,7 @@ use native.Mathlib.Omega.{arith}
 use borrow.Author.Needs.{needs}
 use Rattle.mi.specs.Alarms.{got}
 use Rattle.mi.proofs.Pages.{read-alarm}
-use Rattle.access.proofs.Lookups.{seat-found, seat-alarm, seat-inside}
+use Rattle.access.proofs.Lookups.{look-found, look-alarm, look-inside}
 use Rattle.access.proofs.OneLookup.{one-byte-value, read-page}
 use Rattle.access.proofs.fetch.Statement.{statement}
 use Rattle.access.proofs.fetch.Tie as tie
@@ -19,7 +19,7 @@ cast-at : tie.Need-cast-at
 cast-at c = search needs
 
 shared-slice-read-wide : tie.Need-shared-slice-read-wide
-shared-slice-read-wide c = seat-inside _ _ _ _ _ _ _ _ (c .before .before .before .s .given .1) (c .before .before .before .before .before .look .ensures)
+shared-slice-read-wide c = look-inside _ _ _ _ _ _ _ _ (c .before .before .before .s .given .1) (c .before .before .before .before .before .look .ensures)
 
 wide-requires : tie.Need-wide-requires
 wide-requires c κs = search needs
@@ -30,13 +30,13 @@ enum-known-s-2 c = search needs
 returns : tie.Need-returns
 returns c =
     let looked = c .before .before .before .before .before .before in
-    let found = seat-found (c .before .before .before .before .s .given .1) (looked .look .ensures) (looked .before .before .pre) (omega arith) in
-    (ap got (c .wide .ensures .0 ∙ one-byte-value _ _) ∙ sym (read-page found 1 (omega arith)), c .wide .ensures .1)
+    let found = look-found (c .before .before .before .before .s .given .1) (looked .look .ensures) (looked .before .before .pre) (omega arith) in
+    (ap got (c .wide .ensures .0 ∙ one-byte-value _ _) ∙ sym (read-page found 1 (omega arith)), (c .wide .ensures .1, record { hit = found .hit }))
 
 returns-2 : tie.Need-returns-2
 returns-2 c =
-    let stopped = seat-alarm (c .before .s2 .given .1) (c .before .before .before .look .ensures) (omega arith) in
-    (sym (read-alarm stopped 1 0 (omega arith)), tt)
+    let stopped = look-alarm (c .before .s2 .given .1) (c .before .before .before .look .ensures) (omega arith) in
+    (sym (read-alarm stopped 1 0 (omega arith)), (tt, tt))
 
 pub fetch-spec : {M : Type 1} → statement M
 fetch-spec =

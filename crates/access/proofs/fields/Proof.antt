@@ -1,85 +1,65 @@
--- `fields` is right: six bytes that lie in one page lie side by side in memory, and the first byte's alarm is the answer; others are read byte by byte.
-use Prim.Native.Nat.{_+_, _≤_}
+-- `fields` is right: in the page of the byte that was fetched the six bytes lie as far from it in memory as in the page; others are looked up.
+use Prim.Native.Nat.{_+_, _-_}
+use mathlib.Core.Path.{refl}
 use native.Mathlib.Omega.{arith}
 use borrow.Author.Needs.{needs}
-use lib.ListN.{length}
 use Rattle.mi.specs.declared.Access.the-variants.{Fetch}
-use Rattle.mi.proofs.Pages.{Finds, page-inside}
-use Rattle.access.proofs.Lookups.{seat-found, seat-alarm}
-use Rattle.access.proofs.OneLookup.{fields-page, fields-alarm}
+use Rattle.mi.proofs.Pages.{found-inside, Finds, page-inside}
+use Rattle.access.proofs.OneLookup.{finds-later, fields-page}
 use Rattle.access.proofs.fields.Statement.{statement}
 use Rattle.access.proofs.fields.Tie as tie
 
--- the lookup found the first byte, and the six lie in the memory
-found : (c : tie.After-s) → let a = c .before .before .before .before .before .before .args in Finds (a .status) (a .base) (a .entries) (a .mem .now) (a .x) Fetch (c .s .given .0 .0)
-found c = let looked = c .before .before in seat-found (c .s .given .1) (looked .look .ensures) (looked .before .before .before .before .pre) (omega arith)
+-- the first of the six bytes is found
+found : (c : tie.After-struct-known6)
+    → let a = c .before .before .before .before .before .before .before .before .before .args in
+    Finds (a .status) (a .base) (a .entries) (a .mem .now) (a .x) Fetch (record { 0 = a .found .0 + (a .x .0 - a .start .0) })
+found c =
+    let s = c .before .before .before .before .before .before .before .before .before in
+    finds-later (record { small = omega arith; whole = s .pre .0 .whole; hit = s .pre .1 .hit }) (s .args .x) (omega arith) (omega arith) (omega arith)
 
-six-inside : (c : tie.After-s) → c .s .given .0 .0 .0 + 6 ≤ length (c .before .before .before .before .before .before .args .mem .now)
-six-inside c = page-inside (found c) 6 (omega arith) (omega arith)
+add-if2 : tie.Need-add-if2
+add-if2 c = search needs
 
-look-requires : tie.Need-look-requires
-look-requires c κs = search needs
+add-fields-at : tie.Need-add-fields-at
+add-fields-at c =
+    let s = c .before .before .before .before .before .before .before .before .before in
+    omega (arith, found-inside _ _ _ _ _ _ _ (s .pre .1 .hit), s .pre .0 .small)
 
-enum-known-s : tie.Need-enum-known-s
-enum-known-s c = search needs
+cast-fields-at : tie.Need-cast-fields-at
+cast-fields-at c = search needs
 
-cast-at : tie.Need-cast-at
-cast-at c = search needs
-
-add-word : tie.Need-add-word
-add-word c = search needs
-
-word-requires : tie.Need-word-requires
-word-requires c κs = omega (arith, six-inside (c .before .before))
-
-shared-slice-read-wide : tie.Need-shared-slice-read-wide
-shared-slice-read-wide c = omega (arith, six-inside (c .before .before .before .before))
-
-wide-requires : tie.Need-wide-requires
-wide-requires c κs = search needs
-
-add-wide : tie.Need-add-wide
-add-wide c = search needs
-
-shared-slice-read-wide-2 : tie.Need-shared-slice-read-wide-2
-shared-slice-read-wide-2 c = omega (arith, six-inside (c .before .before .before .before .before .before))
-
-wide-requires-2 : tie.Need-wide-requires-2
-wide-requires-2 c κs = search needs
+fields-at-requires : tie.Need-fields-at-requires
+fields-at-requires c κs = page-inside (found c) 6 (omega arith) (omega arith)
 
 returns : tie.Need-returns
-returns c =
-    let told = c .before .before .before .before .before .before .before in
-    (fields-page (found told) (omega arith) _ _ _ (c .before .before .wide .ensures .0) (c .wide2 .ensures .0) (c .before .before .before .before .word .ensures), c .wide2 .ensures .1)
+returns c = (rw (c .fields-at .ensures .0) (fields-page (found (c .before)) (omega arith) _ _ _ refl refl refl), c .fields-at .ensures .1)
 
-enum-known-s-2 : tie.Need-enum-known-s-2
-enum-known-s-2 c = search needs
+fields-anew-requires : tie.Need-fields-anew-requires
+fields-anew-requires c κs = search needs
+
+enum-known-f : tie.Need-enum-known-f
+enum-known-f c = search needs
+
+enum-known-f-2 : tie.Need-enum-known-f-2
+enum-known-f-2 c = search needs
 
 returns-2 : tie.Need-returns-2
-returns-2 c = (fields-alarm (seat-alarm (c .before .s2 .given .1) (c .before .before .before .look .ensures) (omega arith)), tt)
-
-fields-bytewise-requires : tie.Need-fields-bytewise-requires
-fields-bytewise-requires c κs = search needs
+returns-2 c = rw (c .before .f .given .1) at (c .before .before .before .fields-anew .ensures)
 
 returns-3 : tie.Need-returns-3
-returns-3 c = search needs
+returns-3 c = rw (c .before .f2 .given .1) at (c .before .before .before .fields-anew .ensures)
 
 pub fields-spec : {M : Type 1} → statement M
 fields-spec =
     tie.close
     (tie.spec
-    look-requires
-    enum-known-s
-    cast-at
-    add-word
-    word-requires
-    shared-slice-read-wide
-    wide-requires
-    add-wide
-    shared-slice-read-wide-2
-    wide-requires-2
+    add-if2
+    add-fields-at
+    cast-fields-at
+    fields-at-requires
     returns
-    enum-known-s-2
+    fields-anew-requires
+    enum-known-f
+    enum-known-f-2
     returns-2
-    fields-bytewise-requires
     returns-3)

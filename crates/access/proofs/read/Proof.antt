@@ -4,7 +4,7 @@ use native.Mathlib.Omega.{arith}
 use borrow.Author.Needs.{needs}
 use Rattle.mi.specs.Alarms.{got}
 use Rattle.mi.proofs.Pages.{read-alarm, page-inside}
-use Rattle.access.proofs.Lookups.{seat-found, seat-alarm}
+use Rattle.access.proofs.Lookups.{look-found, look-alarm}
 use Rattle.access.proofs.OneLookup.{length-bounds, read-page}
 use Rattle.access.proofs.read.Statement.{statement}
 use Rattle.access.proofs.read.Tie as tie
@@ -28,12 +28,12 @@ value-at-requires : tie.Need-value-at-requires
 value-at-requires c κs =
     let looked = c .before .before .before .before in
     let start = looked .before .before .before .before .before in
-    page-inside (seat-found (c .before .before .s .given .1) (looked .look .ensures) (start .pre) (omega arith)) _ (omega (arith, length-bounds (start .args .size))) (omega arith)
+    page-inside (look-found (c .before .before .s .given .1) (looked .look .ensures) (start .pre) (omega arith)) _ (omega (arith, length-bounds (start .args .size))) (omega arith)
 
 returns : tie.Need-returns
 returns c =
     let looked = c .before .before .before .before .before in
-    let found = seat-found (c .before .before .before .s .given .1) (looked .look .ensures) (looked .before .before .before .before .before .pre) (omega arith) in
+    let found = look-found (c .before .before .before .s .given .1) (looked .look .ensures) (looked .before .before .before .before .before .pre) (omega arith) in
     ap got (c .value-at .ensures) ∙ sym (read-page found _ (omega arith))
 
 enum-known-s-2 : tie.Need-enum-known-s-2
@@ -42,7 +42,7 @@ enum-known-s-2 c = search needs
 returns-2 : tie.Need-returns-2
 returns-2 c =
     let looked = c .before .before .before in
-    let stopped = seat-alarm (c .before .s2 .given .1) (looked .look .ensures) (omega arith) in
+    let stopped = look-alarm (c .before .s2 .given .1) (looked .look .ensures) (omega arith) in
     sym (read-alarm stopped _ _ (omega (arith, length-bounds (looked .before .before .before .before .before .args .size))))
 
 cast-read-bytewise : tie.Need-cast-read-bytewise

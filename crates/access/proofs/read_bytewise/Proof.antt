@@ -5,7 +5,7 @@ use native.Mathlib.Omega.{arith}
 use borrow.Author.Needs.{needs}
 use Rattle.mi.specs.Words.{span}
 use Rattle.mi.specs.Map.{readFrom, viewBy}
-use Rattle.access.proofs.Lookups.{seat-found, seat-alarm, seat-inside}
+use Rattle.access.proofs.Lookups.{look-found, look-alarm, look-inside}
 use Rattle.access.proofs.Reading.{three-bytes, one-byte-more, read-all, read-next, read-stops, read-ends}
 use Rattle.access.proofs.read_bytewise.Statement.{statement}
 use Rattle.access.proofs.read_bytewise.Tie as tie
@@ -33,7 +33,7 @@ enum-known-s : tie.Need-enum-known-s Inv-loop μ-loop
 enum-known-s c = search needs
 
 cast-at : tie.Need-cast-at Inv-loop μ-loop
-cast-at c = omega (arith, seat-inside _ _ _ _ _ _ _ _ (c .before .before .s .given .1) (c .before .before .before .before .look .ensures))
+cast-at c = omega (arith, look-inside _ _ _ _ _ _ _ _ (c .before .before .s .given .1) (c .before .before .before .before .look .ensures))
 
 mul-acc : tie.Need-mul-acc Inv-loop μ-loop
 mul-acc c =
@@ -41,7 +41,7 @@ mul-acc c =
     omega (arith, three-bytes (turn .i) (turn .acc) (omega arith) (turn .inv .1))
 
 shared-slice-read-wide : tie.Need-shared-slice-read-wide Inv-loop μ-loop
-shared-slice-read-wide c = seat-inside _ _ _ _ _ _ _ _ (c .before .before .before .s .given .1) (c .before .before .before .before .before .look .ensures)
+shared-slice-read-wide c = look-inside _ _ _ _ _ _ _ _ (c .before .before .before .s .given .1) (c .before .before .before .before .before .look .ensures)
 
 wide-requires : tie.Need-wide-requires Inv-loop μ-loop
 wide-requires c κs = search needs
@@ -58,7 +58,7 @@ returns : tie.Need-returns Inv-loop μ-loop
 returns c =
     let looked = c .before .before .before in
     let test = looked .before .before in
-    let stopped = seat-alarm (c .before .s2 .given .1) (looked .look .ensures) (omega arith) in
+    let stopped = look-alarm (c .before .s2 .given .1) (looked .look .ensures) (omega arith) in
     (sym (test .before .loop .inv .2 ∙ read-stops _ _ _ _ _ _ _ (test .loop-test .taken) (looked .before .wrapping-add-u32 .ensures) _ _ (stopped .miss)), tt)
 
 add-i : tie.Need-add-i Inv-loop μ-loop
@@ -72,7 +72,7 @@ loop-again c =
     let looked = c .before .before .before .before .before .before in
     let test = looked .before .before in
     let turn = test .before .loop in
-    let found = seat-found (c .before .before .before .before .s .given .1) (looked .look .ensures) (test .before .before .before .pre .0) (omega arith) in (
+    let found = look-found (c .before .before .before .before .s .given .1) (looked .look .ensures) (test .before .before .before .pre .0) (omega arith) in (
       omega arith,
       one-byte-more (turn .i) (turn .acc) _ (turn .inv .1) (c .wide .ensures .1),
       turn .inv .2 ∙ read-next _ _ _ _ _ _ _ (test .loop-test .taken) (looked .before .wrapping-add-u32 .ensures) _ _ (found .hit) (c .wide .ensures .0),

@@ -5,7 +5,7 @@ use borrow.Author.Needs.{needs}
 use Rattle.mi.specs.Words.{lengthOf, bytesOf}
 use Rattle.mi.proofs.Bytes.{bytes-length}
 use Rattle.mi.proofs.Pages.{located-alarm, located-page, page-inside}
-use Rattle.access.proofs.Lookups.{seat-found, seat-alarm}
+use Rattle.access.proofs.Lookups.{look-found, look-alarm}
 use Rattle.access.proofs.OneLookup.{length-bounds}
 use Rattle.access.proofs.store.Statement.{statement}
 use Rattle.access.proofs.store.Tie as tie
@@ -29,7 +29,7 @@ value-to-requires : tie.Need-value-to-requires
 value-to-requires c κs =
     let looked = c .before .before .before .before .before in
     let start = looked .before .before .before .before .before .before in
-    page-inside (seat-found (c .before .before .before .s .given .1) (looked .look .ensures) (start .pre) (omega arith)) _ (omega (arith, length-bounds (start .args .size))) (omega arith)
+    page-inside (look-found (c .before .before .before .s .given .1) (looked .look .ensures) (start .pre) (omega arith)) _ (omega (arith, length-bounds (start .args .size))) (omega arith)
 
 same-length : tie.Need-same-length
 same-length c = search needs
@@ -38,7 +38,7 @@ returns : tie.Need-returns
 returns c =
     let looked = c .before .before .before .before .before .before .before .before in
     let start = looked .before .before .before .before .before .before in
-    let found = seat-found (c .before .before .before .before .before .before .s .given .1) (looked .look .ensures) (start .pre) (omega arith) in
+    let found = look-found (c .before .before .before .before .before .before .s .given .1) (looked .look .ensures) (start .pre) (omega arith) in
     let long = bytes-length (lengthOf (start .args .size)) (start .args .value) in
     rw (located-page found (bytesOf (lengthOf (start .args .size)) (start .args .value)) (omega arith), c .before .before .value-to .ensures)
 
@@ -52,7 +52,7 @@ returns-2 : tie.Need-returns-2
 returns-2 c =
     let looked = c .before .before .before in
     let start = looked .before .before .before .before .before .before in
-    let stopped = seat-alarm (c .before .s2 .given .1) (looked .look .ensures) (omega arith) in
+    let stopped = look-alarm (c .before .s2 .given .1) (looked .look .ensures) (omega arith) in
     let long = bytes-length (lengthOf (start .args .size)) (start .args .value) in
     rw (located-alarm stopped (bytesOf (lengthOf (start .args .size)) (start .args .value)) (omega (arith, length-bounds (start .args .size))))
 

@@ -8,7 +8,7 @@ use lib.ListN.{length-set, length}
 use Rattle.mi.proofs.Pages.{found-inside}
 use Rattle.mi.specs.Map.{viewBy, commit}
 use Rattle.access.specs.Answers.{wrote}
-use Rattle.access.proofs.Lookups.{seat-found, seat-alarm}
+use Rattle.access.proofs.Lookups.{look-found, look-alarm}
 use Rattle.access.proofs.Storing.{all-located, one-stopped, one-placed, one-written, all-written, writesTo, Placed}
 use Rattle.access.proofs.store_bytes.Statement.{statement}
 use Rattle.access.proofs.store_bytes.Tie as tie
@@ -60,7 +60,7 @@ returns c =
     let test = looked .before .before .before in
     let turn = test .before .loop in
     let a = test .before .before .before .before .args in
-    let stopped = seat-alarm (c .before .s2 .given .1) (looked .look .ensures) (omega arith) in
+    let stopped = look-alarm (c .before .s2 .given .1) (looked .look .ensures) (omega arith) in
     rw (one-stopped (viewBy (a .status) (a .base) (a .entries) (a .mem .now)) (a .mem .now) (a .x .0) (turn .places) (a .bytes .now) (a .n) (turn .i) _ _ _ (test .loop-test .taken) (omega arith) (turn .inv .1) (looked .before .before .wrapping-add-u32 .ensures) (stopped .miss))
 
 add-i : tie.Need-add-i Inv-loop μ-loop Inv-loop2 μ-loop2
@@ -75,7 +75,7 @@ loop-again c =
     let turn = looked .before .before .before .before .loop in
     let start = looked .before .before .before .before .before .before .before in
     let a = start .args in
-    let found = seat-found (c .before .s .given .1) (looked .look .ensures) (start .pre .0) (omega arith) in (
+    let found = look-found (c .before .s .given .1) (looked .look .ensures) (start .pre .0) (omega arith) in (
       omega arith,
       one-placed (viewBy (a .status) (a .base) (a .entries) (a .mem .now)) (a .mem .now) (a .x .0) (turn .places) (turn .i) _ _ (omega arith) (turn .inv .1) (looked .before .before .wrapping-add-u32 .ensures) (found .hit),
       simp length-set (turn .inv .2),

@@ -29,7 +29,7 @@ returns c =
     let byte = mode .before .before .c2 .given .1 in
     let fetched = mode .before .before .before .before .fetch .ensures in
     let a = mode .before .before .before .before .before .before .before .before .args in
-    exec-forbidden (a .status) (a .base) (a .entries) (a .regs .now) (a .mem .now) _ (rw byte at (fetched .0)) (rw byte at (fetched .1)) (sym (mode .forbidden .ensures) ∙ c .if1 .taken)
+    exec-forbidden (a .status) (a .base) (a .entries) (a .regs .now) (a .mem .now) _ (rw byte at (fetched .0)) (rw byte at (fetched .1 .0)) (sym (mode .forbidden .ensures) ∙ c .if1 .taken)
 
 plus-requires : tie.Need-plus-requires
 plus-requires c κs = search needs
@@ -39,11 +39,13 @@ element-write-regs c = search needs
 
 rules-of-requires : tie.Need-rules-of-requires
 rules-of-requires c κs =
-    let fetched = c .before .before .before .before .before .before .before .before in
-    (fetched .before .before .before .before .pre .1, rw (c .before .before .before .before .before .before .c2 .given .1) at (fetched .fetch .ensures .1))
+    let fetched = c .before .before .before .before .before .before in
+    (fetched .before .before .before .before .pre .1, rw (c .before .before .before .before .c2 .given .1) at (fetched .fetch .ensures .1 .0))
 
 take-all-requires : tie.Need-take-all-requires
-take-all-requires c κs = search needs
+take-all-requires c κs =
+    let fetched = c .before .before .before .before .before .before .before .before .before in
+    (fetched .before .before .before .before .pre .0, rw (c .before .before .before .before .before .before .before .c2 .given .1) at (fetched .fetch .ensures .1 .1), c .before .before .rules-of .ensures .1)
 
 enum-known-o : tie.Need-enum-known-o
 enum-known-o c = search needs
@@ -74,8 +76,8 @@ returns-3 c =
     let byte = mode .before .before .c2 .given .1 in
     let fetched = mode .before .before .before .before .fetch .ensures in
     let a = mode .before .before .before .before .before .before .before .before .args in
-    exec-alarm (a .status) (a .base) (a .entries) (a .regs .now) (a .mem .now) _ (rw byte at (fetched .0)) (rw byte at (fetched .1)) (sym (mode .forbidden .ensures) ∙ c .before .before .before .before .before .before .before .before .if1 .left) _ _
-    (rw (c .before .o .given .1, c .before .before .before .before .rules-of .ensures .0, c .before .before .before .before .before .before .before .plus .ensures) at (c .before .before .before .take-all .ensures .0))
+    exec-alarm (a .status) (a .base) (a .entries) (a .regs .now) (a .mem .now) _ (rw byte at (fetched .0)) (rw byte at (fetched .1 .0)) (sym (mode .forbidden .ensures) ∙ c .before .before .before .before .before .before .before .before .if1 .left) _ _
+    (rw (c .before .o .given .1, c .before .before .before .before .before .before .rules-of .ensures .0, c .before .before .before .before .before .before .before .plus .ensures) at (c .before .before .before .take-all .ensures .0))
 
 same-length-4 : tie.Need-same-length-4
 same-length-4 c = search needs
@@ -88,8 +90,8 @@ returns-4 c =
     let a = mode .before .before .before .before .before .before .before .before .args in
     c .before .before .finish .ensures
     ∙ rw (c .before .before .before .before .before .asked-of .ensures)
-    (exec-asked (a .status) (a .base) (a .entries) (a .regs .now) (a .mem .now) _ (rw byte at (fetched .0)) (rw byte at (fetched .1)) (sym (mode .forbidden .ensures) ∙ c .before .before .before .before .before .before .before .before .before .before .before .before .before .before .if1 .left) _
-    (rw (c .before .before .before .before .before .before .before .o2 .given .1, c .before .before .before .before .before .before .before .before .before .before .rules-of .ensures .0, c .before .before .before .before .before .before .before .before .before .before .before .before .before .plus .ensures) at (c .before .before .before .before .before .before .before .before .before .take-all .ensures .0)))
+    (exec-asked (a .status) (a .base) (a .entries) (a .regs .now) (a .mem .now) _ (rw byte at (fetched .0)) (rw byte at (fetched .1 .0)) (sym (mode .forbidden .ensures) ∙ c .before .before .before .before .before .before .before .before .before .before .before .before .before .before .if1 .left) _
+    (rw (c .before .before .before .before .before .before .before .o2 .given .1, c .before .before .before .before .before .before .before .before .before .before .before .before .rules-of .ensures .0, c .before .before .before .before .before .before .before .before .before .before .before .before .before .plus .ensures) at (c .before .before .before .before .before .before .before .before .before .take-all .ensures .0)))
 
 pub exec-spec : {M : Type 1} → statement M
 exec-spec =

@@ -1,5 +1,5 @@
--- `step` is right: the refusals decide, and then the step is made.
-use mathlib.Core.Path.{sym, _∙_}
+-- `step` is right: the refusals decide, and then one step is made.
+use mathlib.Core.Path.{refl, sym, _∙_}
 use borrow.Author.Needs.{needs}
 use Rattle.desk.proofs.Runs.{refused-step, accepted-step}
 use Rattle.desk.proofs.step.Statement.{statement}
@@ -14,8 +14,8 @@ enum-known-q c = search needs
 enum-told : tie.Need-enum-told
 enum-told c = search needs
 
-one-step-requires : tie.Need-one-step-requires
-one-step-requires c κs = sym (c .before .before .before .refusal .ensures) ∙ c .before .enum-told .given .1
+steps-requires : tie.Need-steps-requires
+steps-requires c κs = sym (c .before .before .before .refusal .ensures) ∙ c .before .enum-told .given .1
 
 returns : tie.Need-returns
 returns c =
@@ -27,8 +27,8 @@ same-length c = search needs
 
 returns-2 : tie.Need-returns-2
 returns-2 c =
-    let q = c .before .before .before .before .before .before in
-    c .before .before .one-step .ensures ∙ accepted-step (q .before .before .args .d) _ (sym (q .refusal .ensures) ∙ c .before .before .before .before .enum-told .given .1)
+    let q = c .before .before .before .before .before .before .before in
+    c .before .before .before .steps .ensures .1 refl ∙ accepted-step (q .before .before .args .d) _ (sym (q .refusal .ensures) ∙ c .before .before .before .before .before .enum-told .given .1)
 
 pub step-spec : {M : Type 1} → statement M
 step-spec =
@@ -37,7 +37,7 @@ step-spec =
     refusal-requires
     enum-known-q
     enum-told
-    one-step-requires
+    steps-requires
     returns
     same-length
     returns-2)

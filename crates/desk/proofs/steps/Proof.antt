@@ -4,7 +4,6 @@ use mathlib.Core.Path.{_≡_, refl, ap, _∙_}
 use mathlib.Core.Logic.{⊎-elim}
 use native.Mathlib.Omega.{arith}
 use borrow.Author.Needs.{needs}
-use lib.ListN.{length}
 use Rattle.mi.specs.State.{isRunning}
 use Rattle.mi.specs.Calls.{stepsOf}
 use Rattle.desk.specs.Replies.{interruptOf}
@@ -14,17 +13,17 @@ use Rattle.desk.proofs.steps.Statement.{statement}
 use Rattle.desk.proofs.steps.Tie as tie
 
 abbrev Inv-loop : tie.InvT-loop
-Inv-loop mem₀ n desk₀ regs₀ status₀ count₀ table mem desk regs status count =
-    (count ≤ n) × Midway n count (length mem₀) (stepsOf n 0 desk₀ mem₀) (going desk regs status) mem
+Inv-loop mem₀ n desk₀ last₀ regs₀ status₀ count₀ table mem desk last regs status count =
+    (count ≤ n) × Midway n count (stepsOf n 0 desk₀ mem₀) desk₀ mem₀ last (going desk regs status) mem
 
 abbrev μ-loop : tie.MeasureT-loop
-μ-loop mem₀ n desk₀ regs₀ status₀ count₀ table mem desk regs status count = n - count
+μ-loop mem₀ n desk₀ last₀ regs₀ status₀ count₀ table mem desk last regs status count = n - count
 
 table-requires : tie.Need-table-requires Inv-loop μ-loop
 table-requires c κs = search needs
 
 loop-holds : tie.Need-loop-holds Inv-loop μ-loop
-loop-holds c = (search needs, start _ _ _ (c .before .before .before .pre))
+loop-holds c = (search needs, start _ _ _ _ (c .before .before .before .pre))
 
 add-count : tie.Need-add-count Inv-loop μ-loop
 add-count c = search needs
@@ -75,16 +74,17 @@ loop-less-2 c = search needs
 
 -- after an interrupt, or a command that did not end quietly
 turn : (c : tie.Joined1 Inv-loop μ-loop)
-    → After (c .before .before .before .before .before .before .before .args .n) (c .before .before .before .loop .count + 1) (length (c .before .before .before .before .before .before .before .args .mem .now)) (stepsOf (c .before .before .before .before .before .before .before .args .n) 0 (c .before .before .before .before .before .before .before .args .d) (c .before .before .before .before .before .before .before .args .mem .now)) (c .if1 .desk) (c .if1 .mem)
+    → let a = c .before .before .before .before .before .before .before .args in
+    After (a .n) (c .before .before .before .loop .count + 1) (stepsOf (a .n) 0 (a .d) (a .mem .now)) (a .d) (a .mem .now) (c .if1 .last) (c .if1 .desk) (c .if1 .mem)
 turn c =
     let l = c .before .before .before .loop in
     let left = c .before .before .loop-test .taken in
     let level = c .before .interrupt .ensures .0 in
     ⊎-elim
-    (λ w. rw (w .7, w .8) (after-level (l .inv .1) left (w .1 .ensures) (w .3 .result) _ _ (w .3 .kept .1 .0) level (w .0 .taken) (w .3 .ensures)))
+    (λ w. rw (w .7, w .8, w .9) (after-level (l .inv .1) left (w .1 .ensures) (w .3 .result) _ _ (w .3 .kept .1 .0) level (w .0 .taken) (w .3 .ensures)))
     (λ w.
     let none : interruptOf (l .status) (l .desk .pending) ≡ 0 = omega (arith, level, w .0 .left) in
-    rw (w .15, w .16)
+    rw (w .15, w .16, w .17)
     (after-command (l .inv .1) (w .5 .result) _ _ none (w .5 .ensures) left (w .9 .ensures) (w .11 .result) _ (w .11 .kept .1 .0 ∙ w .5 .kept .0) (w .11 .ensures)))
     (c .if1 .came)
 
@@ -94,26 +94,31 @@ loop-again-2 c = (search needs, go-on (turn (c .before .before .before)) (ap isR
 enum-told-2 : tie.Need-enum-told-2 Inv-loop μ-loop
 enum-told-2 c = search needs
 
-ran-requires : tie.Need-ran-requires Inv-loop μ-loop
-ran-requires c κs = search needs
+made-requires : tie.Need-made-requires Inv-loop μ-loop
+made-requires c κs = search needs
 
 same-length : tie.Need-same-length Inv-loop μ-loop
 same-length c = turn (c .before .before .before .before) .same
 
 returns : tie.Need-returns Inv-loop μ-loop
-returns c = rw (c .ran .ensures) (stopped (turn (c .before .before .before .before)) (ap isRunning (c .before .enum-told2 .given .1)))
+returns c =
+    let t = turn (c .before .before .before .before) in
+    rw (c .made .ensures) (stopped t (ap isRunning (c .before .enum-told2 .given .1)), λ h. t .one (omega (arith, h)))
 
 running-requires-3 : tie.Need-running-requires-3 Inv-loop μ-loop
 running-requires-3 c κs = search needs
 
-ran-requires-2 : tie.Need-ran-requires-2 Inv-loop μ-loop
-ran-requires-2 c κs = search needs
+made-requires-2 : tie.Need-made-requires-2 Inv-loop μ-loop
+made-requires-2 c κs = search needs
 
 same-length-2 : tie.Need-same-length-2 Inv-loop μ-loop
 same-length-2 c = c .before .before .before .loop .inv .1 .same
 
 returns-2 : tie.Need-returns-2 Inv-loop μ-loop
-returns-2 c = rw (c .ran2 .ensures, c .before .running3 .ensures) (finished (c .before .before .before .loop .inv .1) (c .before .before .loop-test .left))
+returns-2 c =
+    let l = c .before .before .before .loop in
+    let t = c .before .before .loop-test .left in
+    rw (c .made2 .ensures, c .before .running3 .ensures) (finished (l .inv .1) t, λ h. l .inv .1 .one (omega (arith, h, t, l .inv .0)))
 
 pub steps-spec : {M : Type 1} → statement M
 steps-spec =
@@ -137,10 +142,10 @@ steps-spec =
     loop-less-2
     loop-again-2
     enum-told-2
-    ran-requires
+    made-requires
     same-length
     returns
     running-requires-3
-    ran-requires-2
+    made-requires-2
     same-length-2
     returns-2)

@@ -7,11 +7,11 @@ use Rattle.midesk.proofs.word_mark.Tie as tie
 
 returns : tie.Need-returns
 unfolding markOf
-returns c = search (needs, eq-eqb, ne-eqb)
+returns c = search (needs, eq-eqb)
 
 returns-2 : tie.Need-returns-2
 unfolding markOf
-returns-2 c = search (needs, eq-eqb, ne-eqb)
+returns-2 c = search (needs, ne-eqb)
 
 pub word-mark-spec : {M : Type 1} → statement M
 word-mark-spec = tie.close (tie.spec returns returns-2)

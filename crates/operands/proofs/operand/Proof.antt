@@ -21,7 +21,7 @@ element-write-regs : tie.Need-element-write-regs
 element-write-regs c = search needs
 
 by-form-requires : tie.Need-by-form-requires
-by-form-requires c κs = (c .before .before .before .before .before .before .before .before .pre, omega (arith, rw (c .before .before .before .f .given .1) at (c .before .before .before .before .before .fields .ensures .1)))
+by-form-requires c κs = (c .before .before .before .before .before .before .before .before .pre .0, omega (arith, rw (c .before .before .before .f .given .1) at (c .before .before .before .before .before .fields .ensures .1)))
 
 enum-known-f-2 : tie.Need-enum-known-f-2
 enum-known-f-2 c = search needs

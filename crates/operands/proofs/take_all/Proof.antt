@@ -10,7 +10,7 @@ use Rattle.operands.proofs.take_all.Statement.{statement}
 use Rattle.operands.proofs.take_all.Tie as tie
 
 abbrev Inv-loop : tie.InvT-loop
-Inv-loop mem regs₀ status base entries rules first₀ second₀ target₀ place₀ rest₀ regs first second target place rest =
+Inv-loop mem regs₀ status base entries start found rules first₀ second₀ target₀ place₀ rest₀ regs first second target place rest =
     Left
     (viewBy status base entries mem)
     place
@@ -20,11 +20,11 @@ Inv-loop mem regs₀ status base entries rules first₀ second₀ target₀ plac
     × SmallTarget target
 
 abbrev μ-loop : tie.MeasureT-loop
-μ-loop mem regs₀ status base entries rules first₀ second₀ target₀ place₀ rest₀ regs first second target place rest =
+μ-loop mem regs₀ status base entries start found rules first₀ second₀ target₀ place₀ rest₀ regs first second target place rest =
     rest
 
 loop-holds : tie.Need-loop-holds Inv-loop μ-loop
-loop-holds c = (all-left _ _ _ (c .before .pre .1), search needs)
+loop-holds c = (all-left _ _ _ (c .before .pre .2), search needs)
 
 size-in-requires : tie.Need-size-in-requires Inv-loop μ-loop
 size-in-requires c κs = search needs
