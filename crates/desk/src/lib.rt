@@ -20,6 +20,8 @@ use mi::StepAnswer;
 use mi::StepReply;
 use mi::VirtualAddress;
 
+// ---- Refusals
+
 // Number 1 has nothing to refuse.
 fn length_allowed(n: usize) -> bool
     ensures { λ r. ⌜ r ≡ allowedLength n ⌝ }
@@ -103,33 +105,7 @@ fn refused_fresh(k: Refusal) -> Reply
     }
 }
 
-// A fresh desk over this memory: kernel mode, zero registers but R15, which is start.
-pub fn fresh(mem: &[u8], system: RealAddress, control: RealAddress, start: VirtualAddress) -> Reply
-    ensures { λ r. ⌜ r ≡ freshOf (length (now (mem .entry))) system control start ⌝ }
-{
-    let blocks = block_refusal(mem.len(), system, control);
-    match blocks {
-        Answer::Refused(k) => refused_fresh(k),
-        Answer::Accepted => {
-            let mut registers: [u32; 16] = [0; 16];
-            registers[15] = start.0;
-            let desk = Desk {
-                registers,
-                status: 0x8000_0000,
-                pending: 0,
-                base: RealAddress(0),
-                entries: 0,
-                system,
-                control,
-                mark: Mark::Running,
-            };
-            Reply {
-                answer: Answer::Accepted,
-                desk,
-            }
-        }
-    }
-}
+// ---- The pending set
 
 // The pending set with a level, which is at most 15.
 fn with_level(pending: u16, level: u32) -> u16
@@ -144,35 +120,12 @@ fn with_level(pending: u16, level: u32) -> u16
     (p + bit) as u16
 }
 
-// An interrupt level is requested: any number may be given, 1 to 15 are levels.
-pub fn request(d: Desk, level: u32) -> Reply
-    ensures { λ r. ⌜ r ≡ requestOf d level ⌝ }
+// The pending set without a level that is in it.
+fn without_level(pending: u16, level: u32) -> u16
+    requires { ⌜ (level ≤ 15) × (2 ^ level ≤ pending) ⌝ }
+    ensures { λ r. ⌜ r ≡ withoutLevel pending level ⌝ }
 {
-    let valid = state_valid(d.status, d.pending);
-    if !valid {
-        return Reply {
-            answer: Answer::Refused(Refusal::Status),
-            desk: d,
-        };
-    }
-    if level < 1 {
-        return Reply {
-            answer: Answer::Refused(Refusal::Level),
-            desk: d,
-        };
-    }
-    if 15 < level {
-        return Reply {
-            answer: Answer::Refused(Refusal::Level),
-            desk: d,
-        };
-    }
-    let mut desk = d;
-    desk.pending = with_level(d.pending, level);
-    Reply {
-        answer: Answer::Accepted,
-        desk,
-    }
+    pending - (1u16 << level)
 }
 
 // ---- One step of a desk that is not refused
@@ -337,14 +290,6 @@ fn interrupt(status: u32, pending: u16) -> u32
     0
 }
 
-// The pending set without a level that is in it.
-fn without_level(pending: u16, level: u32) -> u16
-    requires { ⌜ (level ≤ 15) × (2 ^ level ≤ pending) ⌝ }
-    ensures { λ r. ⌜ r ≡ withoutLevel pending level ⌝ }
-{
-    pending - (1u16 << level)
-}
-
 // The level that is due is entered and its pending bit cleared.
 fn enter_level(d: Desk, mem: &mut [u8], level: u32) -> StepReply
     requires { ⌜ Blocks d (now mem) × (level ≤ 15) × (2 ^ level ≤ d .pending) ⌝ }
@@ -425,6 +370,34 @@ fn steps(d: Desk, mem: &mut [u8], n: u64) -> Progress
 
 // ---- The calls
 
+// A fresh desk over this memory: kernel mode, zero registers but R15, which is start.
+pub fn fresh(mem: &[u8], system: RealAddress, control: RealAddress, start: VirtualAddress) -> Reply
+    ensures { λ r. ⌜ r ≡ freshOf (length (now (mem .entry))) system control start ⌝ }
+{
+    let blocks = block_refusal(mem.len(), system, control);
+    match blocks {
+        Answer::Refused(k) => refused_fresh(k),
+        Answer::Accepted => {
+            let mut registers: [u32; 16] = [0; 16];
+            registers[15] = start.0;
+            let desk = Desk {
+                registers,
+                status: 0x8000_0000,
+                pending: 0,
+                base: RealAddress(0),
+                entries: 0,
+                system,
+                control,
+                mark: Mark::Running,
+            };
+            Reply {
+                answer: Answer::Accepted,
+                desk,
+            }
+        }
+    }
+}
+
 // One step.
 pub fn step(d: Desk, mem: &mut [u8]) -> StepReply
     ensures { λ r. ⌜ stepped r (now (mem .exit)) ≡ stepOf d (now (mem .entry)) ⌝ }
@@ -464,5 +437,36 @@ pub fn run(d: Desk, mem: &mut [u8], n: u64) -> RunReply
                 desk,
             }
         }
+    }
+}
+
+// An interrupt level is requested: any number may be given, 1 to 15 are levels.
+pub fn request(d: Desk, level: u32) -> Reply
+    ensures { λ r. ⌜ r ≡ requestOf d level ⌝ }
+{
+    let valid = state_valid(d.status, d.pending);
+    if !valid {
+        return Reply {
+            answer: Answer::Refused(Refusal::Status),
+            desk: d,
+        };
+    }
+    if level < 1 {
+        return Reply {
+            answer: Answer::Refused(Refusal::Level),
+            desk: d,
+        };
+    }
+    if 15 < level {
+        return Reply {
+            answer: Answer::Refused(Refusal::Level),
+            desk: d,
+        };
+    }
+    let mut desk = d;
+    desk.pending = with_level(d.pending, level);
+    Reply {
+        answer: Answer::Accepted,
+        desk,
     }
 }
