@@ -213,6 +213,33 @@ pub fn read(
     }
 }
 
+// A word at an address. Small enough to become part of its caller.
+pub fn read_word(mem: &[u8], status: u32, base: RealAddress, entries: u32, x: VirtualAddress) -> Got
+    requires { ⌜ Fits base entries (now mem) ⌝ }
+    ensures { λ r. ⌜ gotAs r ≡ readBytes (viewBy status base entries (now (mem .entry))) Access.Read 4 x ⌝ }
+{
+    if x.0 % 512 <= 508 {
+        let s = look(mem, status, base, entries, x, Access::Read);
+        match s {
+            Lookup::At(r) => {
+                let at = r.0 as usize;
+                let v = word(mem, at);
+                return Got::Value(v);
+            }
+            Lookup::Alarm(k) => {
+                return Got::Alarm(k, x.0);
+            }
+        }
+    }
+    // The slice and the answer of this call alone go through memory.
+    let all = mem;
+    let w = read(all, status, base, entries, x, Size::W);
+    match w {
+        Got::Value(v) => Got::Value(v),
+        Got::Alarm(k, a) => Got::Alarm(k, a),
+    }
+}
+
 // A command byte.
 pub fn fetch(
     mem: &[u8],
@@ -449,4 +476,32 @@ pub fn store(
     }
     let bytes = bytes_of(size, value);
     store_bytes(mem, status, base, entries, x, &bytes, n as usize)
+}
+
+// A word to an address. Small enough to become part of its caller.
+pub fn store_word(
+    mem: &mut [u8],
+    status: u32,
+    base: RealAddress,
+    entries: u32,
+    x: VirtualAddress,
+    value: u32,
+) -> Stored
+    requires { ⌜ Fits base entries (now mem) ⌝ }
+    ensures { λ r. ⌜ storedAs r (now (mem .exit)) ≡ storeEndOf (now (mem .entry)) (located (viewBy status base entries (now (mem .entry))) (writesFrom (x .0) (bytesOf 4 value))) ⌝ }
+{
+    if x.0 % 512 <= 508 {
+        let s = look(mem, status, base, entries, x, Access::Write);
+        match s {
+            Lookup::At(r) => {
+                let at = r.0 as usize;
+                value_to(mem, at, Size::W, value);
+                return Stored::Done;
+            }
+            Lookup::Alarm(k) => {
+                return Stored::Alarm(k, x.0);
+            }
+        }
+    }
+    store(mem, status, base, entries, x, Size::W, value)
 }

@@ -3,12 +3,12 @@
 ghost use mathlib.Core.Path.{_≡_};
 ghost use mathlib.Core.List.{[], _∷_, _++_};
 ghost use Prim.Native.Nat.{_<_};
-ghost use Rattle.mi.specs.Words.{lengthOf, bytesOfWords};
+ghost use Rattle.mi.specs.Words.{lengthOf, bytesOf, bytesOfWords};
 ghost use Rattle.mi.specs.State.{reg, flagsOf, withFlags, registersFrom};
 ghost use Rattle.mi.specs.Alarms.{got};
-ghost use Rattle.mi.specs.Map.{viewBy};
+ghost use Rattle.mi.specs.Map.{viewBy, located, writesFrom};
 ghost use Rattle.mi.specs.Commands.{keptRest, stored, pushed, called};
-ghost use Rattle.access.specs.Answers.{Fits};
+ghost use Rattle.access.specs.Answers.{Fits, storedAs, storeEndOf};
 ghost use Rattle.codes.specs.Rules.{tableOf};
 ghost use Rattle.operands.specs.Answers.{SmallTarget};
 ghost use Rattle.commands.specs.Ends.{outAs, doneEnd, poppedDone, returnedDone, actEnd, execOf, AfterStore};
@@ -61,6 +61,25 @@ fn ended(done: Stored, status: u32) -> Out
     }
 }
 
+// A value of a size to an address. Words are stored in place, since they are most frequent.
+fn store(
+    mem: &mut [u8],
+    status: u32,
+    base: RealAddress,
+    entries: u32,
+    a: VirtualAddress,
+    size: Size,
+    value: u32,
+) -> Stored
+    requires { ⌜ Fits base entries (now mem) ⌝ }
+    ensures { λ r. ⌜ storedAs r (now (mem .exit)) ≡ storeEndOf (now (mem .entry)) (located (viewBy status base entries (now (mem .entry))) (writesFrom (a .0) (bytesOf (lengthOf size) value))) ⌝ }
+{
+    match size {
+        Size::W => access::store_word(mem, status, base, entries, a, value),
+        _ => access::store(mem, status, base, entries, a, size, value),
+    }
+}
+
 // A result to its target.
 fn put(
     mem: &mut [u8],
@@ -84,7 +103,7 @@ fn put(
             Out::Done(s)
         }
         Target::Memory(a) => {
-            let done = access::store(mem, status, base, entries, a, size, x.value);
+            let done = store(mem, status, base, entries, a, size, x.value);
             ended(done, s)
         }
     }

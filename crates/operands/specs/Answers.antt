@@ -1,15 +1,16 @@
 -- What the answers of this crate's functions say, in the terms of `mi`.
-use Prim.Native.Nat.{ℕ, _+_, _<_}
+use Prim.Native.Nat.{ℕ, _+_, _%_, _<_}
 use mathlib.Core.Path.{_≡_}
 use Rattle.mi.specs.declared.Role.{Role}
-use Rattle.mi.specs.declared.Role.the-variants.{Address, Destination}
-use Rattle.mi.specs.Words.{pick}
-use Rattle.mi.specs.State.{Registers}
+use Rattle.mi.specs.declared.Role.the-variants.{Value, Address, Destination, Update}
+use Rattle.mi.specs.declared.VirtualAddress.{VirtualAddress}
+use Rattle.mi.specs.Words.{pick, span}
+use Rattle.mi.specs.State.{Registers, reg}
 use Rattle.mi.specs.declared.Target.{Target}
 use Rattle.mi.specs.declared.Target.the-variants as target
 use Rattle.mi.specs.Alarms.{OrAlarm, got, alarm, _>>=_}
 use Rattle.mi.specs.Map.{View}
-use Rattle.mi.specs.Operands.{Fields, virtual, keepsRules, immediate, register, memory, Operand, at, byForm, valueIn, Taken, taken, takenBy, Operands as Given}
+use Rattle.mi.specs.Operands.{Fields, virtual, keepsRules, Location, immediate, register, memory, Operand, at, byForm, Taken, taken, takenBy, Operands as Given}
 use Rattle.access.specs.declared.Got.{Got}
 use Rattle.access.specs.Answers.{gotAs}
 use Rattle.operands.specs.declared.Spot.{Spot}
@@ -42,10 +43,6 @@ pub record Behind (p : Spot) (w : Got) (more : ℕ) : Type 0 where
 abbrev pub formed : View → ℕ → ℕ → Registers → Fields → OrAlarm Operand
 formed v place L r k = pick (keepsRules L k) (byForm v L r k) (alarm 14 place)
 
--- the value of an operand
-abbrev pub valueFrom : View → ℕ → OrAlarm Operand → OrAlarm ℕ
-valueFrom v L p = p >>= (λ o. valueIn v L (o .registers) (o .location))
-
 abbrev pub takenWith : OrAlarm ℕ → Target → OrAlarm Taken
 takenWith v t = v >>= (λ n. taken n t)
 
@@ -67,12 +64,24 @@ abbrev pub SmallTook : Took → Type 0
 SmallTook (took.Got n t) = SmallTarget t
 SmallTook (took.Alarm n x) = Unit {0}
 
--- over any registers and view
-pub record TakesAddress (t : Took) (place : ℕ) (p : Spot) : Type 0 where
-  pub same : (v : View) (L : ℕ) (r : Registers) → tookAs t ≡ takenFrom v place L Address (spotAs p r)
+-- what a role takes from an operand that is there, over any registers and view
+pub record TakesFrom (t : Took) (place : ℕ) (k : Role) (l : Location) : Type 0 where
+  pub same : (v : View) (L : ℕ) (r : Registers) → tookAs t ≡ takenFrom v place L k (at l r)
 
-pub record TakesDestination (t : Took) (place : ℕ) (p : Spot) : Type 0 where
-  pub same : (v : View) (L : ℕ) (r : Registers) → tookAs t ≡ takenFrom v place L Destination (spotAs p r)
+-- from register x, in which the value is n
+pub record TakesRegister (t : Took) (place : ℕ) (k : Role) (x n : ℕ) : Type 0 where
+  pub same : (v : View) (L : ℕ) (r : Registers) → n ≡ reg r x % span L → tookAs t ≡ takenFrom v place L k (at (register x) r)
+
+-- where a result for an operand in memory goes
+abbrev pub writtenBy : Role → VirtualAddress → Target
+writtenBy Value a = target.Nowhere
+writtenBy Address a = target.Nowhere
+writtenBy Destination a = target.Memory a
+writtenBy Update a = target.Memory a
+
+-- from memory
+pub record TakesMemory (t : Took) (v : View) (L : ℕ) (k : Role) (a : VirtualAddress) : Type 0 where
+  pub same : (place : ℕ) (r : Registers) → tookAs t ≡ takenFrom v place L k (at (memory a) r)
 
 abbrev pub operandsAs : Operands → Registers → OrAlarm Given
 operandsAs (operands.Ready a b t) r = got (record { first = a; second = b; target = t; registers = r })

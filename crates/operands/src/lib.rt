@@ -4,13 +4,14 @@ ghost use mathlib.Core.Bool.{not, _&&_};
 ghost use Prim.Native.Nat.{_*_, _<_};
 ghost use lib.Dec.{eqb};
 ghost use Rattle.mi.specs.Words.{pick, lengthOf, wrap, raised, lowered};
-ghost use Rattle.mi.specs.Map.{viewBy};
-ghost use Rattle.mi.specs.Operands.{virtual, operandAt, operandsOf};
+ghost use Rattle.mi.specs.Map.{viewBy, readBytes};
+ghost use Rattle.mi.specs.Operands.{virtual, immediate, operandAt, operandsOf};
 ghost use Rattle.access.specs.Answers.{Fits, gotAs, FetchedFrom};
-ghost use Rattle.operands.specs.Answers.{spotAs, SmallSpot, Behind, formed, valueFrom, tookAs, SmallTarget, SmallTook, takenWith, TakesAddress, TakesDestination, takenFrom, operandsAs, SmallOperands};
+ghost use Rattle.operands.specs.Answers.{spotAs, SmallSpot, Behind, formed, tookAs, SmallTarget, SmallTook, takenWith, takenFrom, TakesFrom, TakesRegister, writtenBy, TakesMemory, operandsAs, SmallOperands};
 ghost use Rattle.codes.specs.Rules.{rulesIn};
 use access::Got;
 use access::OperandBytes;
+use mi::Access;
 use mi::RealAddress;
 use mi::Role;
 use mi::Size;
@@ -222,31 +223,6 @@ fn operand(
 
 // ---- What a role takes
 
-// The value of an operand.
-fn value(
-    mem: &[u8],
-    regs: &[u32; 16],
-    status: u32,
-    base: RealAddress,
-    entries: u32,
-    size: Size,
-    spot: Spot,
-) -> Got
-    requires { ⌜ Fits base entries (now mem) × SmallSpot spot ⌝ }
-    ensures { λ r. ⌜ gotAs r ≡ valueFrom (viewBy status base entries (now (mem .entry))) (lengthOf size) (spotAs spot (now (regs .entry))) ⌝ }
-{
-    match spot {
-        Spot::Immediate(z) => Got::Value(z),
-        Spot::Register(x) => {
-            let i = x as usize;
-            let v = integers::low(size, regs[i]);
-            Got::Value(v)
-        }
-        Spot::Memory(a) => access::read(mem, status, base, entries, a, size),
-        Spot::Alarm(n, a) => Got::Alarm(n, a),
-    }
-}
-
 // What is taken from the value of an operand, with a target.
 fn with_value(v: Got, t: Target) -> Took
     requires { ⌜ SmallTarget t ⌝ }
@@ -259,29 +235,95 @@ fn with_value(v: Got, t: Target) -> Took
     }
 }
 
-fn take_address(place: u32, spot: Spot) -> Took
-    ensures value { λ r. ⌜ TakesAddress r place spot ⌝ }
+// From an immediate value. It is no destination and has no address.
+fn take_immediate(role: Role, place: u32, z: u32) -> Took
+    ensures value { λ r. ⌜ TakesFrom r place role (immediate z) ⌝ }
     ensures small { λ r. ⌜ SmallTook r ⌝ }
 {
-    match spot {
-        Spot::Immediate(z) => Took::Alarm(14, place),
-        Spot::Register(x) => Took::Alarm(14, place),
-        Spot::Memory(a) => Took::Got(a.0, Target::Nowhere),
-        Spot::Alarm(n, a) => Took::Alarm(n, a),
+    match role {
+        Role::Value => Took::Got(z, Target::Nowhere),
+        Role::Address => Took::Alarm(14, place),
+        Role::Destination => Took::Alarm(14, place),
+        Role::Update => Took::Alarm(14, place),
     }
 }
 
-fn take_destination(place: u32, spot: Spot) -> Took
-    requires { ⌜ SmallSpot spot ⌝ }
-    ensures value { λ r. ⌜ TakesDestination r place spot ⌝ }
+// From register x, in which the operand's value is n.
+fn take_register(role: Role, place: u32, x: u32, n: u32) -> Took
+    requires { ⌜ x < 16 ⌝ }
+    ensures value { λ r. ⌜ TakesRegister r place role x n ⌝ }
     ensures small { λ r. ⌜ SmallTook r ⌝ }
 {
-    match spot {
-        Spot::Immediate(z) => Took::Alarm(14, place),
-        Spot::Register(x) => Took::Got(0, Target::Register(x)),
-        Spot::Memory(a) => Took::Got(0, Target::Memory(a)),
-        Spot::Alarm(n, a) => Took::Alarm(n, a),
+    match role {
+        Role::Value => Took::Got(n, Target::Nowhere),
+        Role::Address => Took::Alarm(14, place), // a register has none
+        Role::Destination => Took::Got(0, Target::Register(x)),
+        Role::Update => Took::Got(n, Target::Register(x)),
     }
+}
+
+// The value of a size at an address. Words are read in place, since they are most frequent.
+fn read(
+    mem: &[u8],
+    status: u32,
+    base: RealAddress,
+    entries: u32,
+    a: VirtualAddress,
+    size: Size,
+) -> Got
+    requires { ⌜ Fits base entries (now mem) ⌝ }
+    ensures { λ r. ⌜ gotAs r ≡ readBytes (viewBy status base entries (now (mem .entry))) Access.Read (lengthOf size) a ⌝ }
+{
+    match size {
+        Size::W => access::read_word(mem, status, base, entries, a),
+        _ => {
+            // The slice and the answer of this call alone go through memory.
+            let all = mem;
+            let w = access::read(all, status, base, entries, a, size);
+            match w {
+                Got::Value(v) => Got::Value(v),
+                Got::Alarm(n, x) => Got::Alarm(n, x),
+            }
+        }
+    }
+}
+
+// Where a result for an operand in memory goes.
+fn written(role: Role, a: VirtualAddress) -> Target
+    ensures value { λ r. ⌜ r ≡ writtenBy role a ⌝ }
+    ensures small { λ r. ⌜ SmallTarget r ⌝ }
+{
+    match role {
+        Role::Value => Target::Nowhere,
+        Role::Address => Target::Nowhere,
+        Role::Destination => Target::Memory(a),
+        Role::Update => Target::Memory(a),
+    }
+}
+
+// From memory. The only call of `read` is here, so that it becomes part of the loop over the operands.
+fn take_memory(
+    mem: &[u8],
+    status: u32,
+    base: RealAddress,
+    entries: u32,
+    size: Size,
+    role: Role,
+    a: VirtualAddress,
+) -> Took
+    requires { ⌜ Fits base entries (now mem) ⌝ }
+    ensures value { λ r. ⌜ TakesMemory r (viewBy status base entries (now (mem .entry))) (lengthOf size) role a ⌝ }
+    ensures small { λ r. ⌜ SmallTook r ⌝ }
+{
+    let goes = written(role, a);
+    match role {
+        Role::Value => {}
+        Role::Address => return Took::Got(a.0, goes),
+        Role::Destination => return Took::Got(0, goes),
+        Role::Update => {}
+    }
+    let v = read(mem, status, base, entries, a, size);
+    with_value(v, goes)
 }
 
 // What an operand's role takes from it.
@@ -300,23 +342,15 @@ fn take(
     ensures value { λ r. ⌜ tookAs r ≡ takenFrom (viewBy status base entries (now (mem .entry))) place (lengthOf size) role (spotAs spot (now (regs .entry))) ⌝ }
     ensures small { λ r. ⌜ SmallTook r ⌝ }
 {
-    match role {
-        Role::Value => {
-            let v = value(mem, regs, status, base, entries, size, spot);
-            with_value(v, Target::Nowhere)
+    match spot {
+        Spot::Immediate(z) => take_immediate(role, place, z),
+        Spot::Register(x) => {
+            let i = x as usize;
+            let n = integers::low(size, regs[i]);
+            take_register(role, place, x, n)
         }
-        Role::Address => take_address(place, spot),
-        Role::Destination => take_destination(place, spot),
-        Role::Update => {
-            let d = take_destination(place, spot);
-            match d {
-                Took::Got(n, t) => {
-                    let v = value(mem, regs, status, base, entries, size, spot);
-                    with_value(v, t)
-                }
-                Took::Alarm(n, a) => Took::Alarm(n, a),
-            }
-        }
+        Spot::Memory(a) => take_memory(mem, status, base, entries, size, role, a),
+        Spot::Alarm(n, a) => Took::Alarm(n, a),
     }
 }
 
