@@ -5,14 +5,12 @@ use mathlib.Core.List.{[]}
 use lib.ListN.{set}
 use Rattle.mi.specs.declared.VirtualAddress.{VirtualAddress}
 use Rattle.mi.specs.declared.RealAddress.{RealAddress}
-use Rattle.mi.specs.declared.Access.the-variants.{Read}
 use Rattle.mi.specs.declared.Target.{Target}
 use Rattle.mi.specs.Words.{pick, Memory, lengthOf}
 use Rattle.mi.specs.State.{Registers, reg, userMode, flagsOf, withFlags}
-use Rattle.mi.specs.Alarms.{OrAlarm, got, alarm, _>>=_}
-use Rattle.mi.specs.Map.{View, viewBy, readBytes, RealWrites, located, commit}
-use Rattle.mi.specs.Operands.{virtual}
-use Rattle.mi.specs.Commands.{Done, stored, pushed, popped, called, returned, Act, done, modal, SystemCall, userCommand, KernelEffect, kernelCommand}
+use Rattle.mi.specs.Alarms.{OrAlarm, got, alarm}
+use Rattle.mi.specs.Map.{View, viewBy, RealWrites, located, commit}
+use Rattle.mi.specs.Commands.{Done, stored, pushed, poppedDone, called, returnedDone, Act, done, modal, SystemCall, userCommand, KernelEffect, kernelCommand}
 use Rattle.mi.specs.Commands.{halts, resumes}
 use Rattle.access.specs.declared.Stored.{Stored}
 use Rattle.access.specs.Answers.{StoreEnd, wrote, failed, storedAs}
@@ -77,12 +75,6 @@ execOf s base entries r m =
     (kernelEnd s m (viewBy s base entries m) (kernelCommand (viewBy s base entries m) r (flagsOf s)))
 
 -- ---- From what its byte asks for, once its operands are taken: x is the first number, t the target
-
-abbrev pub poppedDone : View → Registers → ℕ → OrAlarm Done
-poppedDone v r f = popped v 15 0 r >>= (λ q. got (record { registers = q; flags = f; writes = [] }))
-
-abbrev pub returnedDone : View → Registers → ℕ → OrAlarm Done
-returnedDone v r f = readBytes v Read 4 (virtual (reg r 14)) >>= (λ w. got (returned w r f))
 
 unfoldable pub actEnd : ℕ → Memory → View → Registers → ℕ → Target → Asked → End
 actEnd s m v r x t (act.Give size y) = doneEnd s m v (got (stored (lengthOf size) y t r))

@@ -56,6 +56,11 @@ popped v (suc n) i r = do
   w ← readBytes v Read 4 (virtual (reg r 14))
   popped v n (suc i) (set (set r i w) 14 (raised (reg (set r i w) 14) 4))
 
+abbrev pub poppedDone : View → Registers → ℕ → OrAlarm Done
+poppedDone v r f = do
+  q ← popped v 15 0 r
+  got (record { registers = q; flags = f; writes = [] })
+
 -- "CALL lowers SP by 4, stores the next address there and jumps"
 unfoldable pub called : ℕ → Registers → ℕ → Done
 called a r f =
@@ -65,6 +70,11 @@ called a r f =
 -- "RET reverses it"
 unfoldable pub returned : ℕ → Registers → ℕ → Done
 returned w r f = record { registers = set (set r 15 w) 14 (raised (reg r 14) 4); flags = f; writes = [] }
+
+abbrev pub returnedDone : View → Registers → ℕ → OrAlarm Done
+returnedDone v r f = do
+  w ← readBytes v Read 4 (virtual (reg r 14))
+  got (returned w r f)
 
 -- ---- Jumps
 
@@ -87,14 +97,10 @@ commonDone (result op s) v f o = do
   got (stored (lengthOf s) x (o .target) (o .registers))
 commonDone (CMP s) v f o = got (record { registers = o .registers; flags = compared (lengthOf s) (natural (lengthOf s) (o .first)) (natural (lengthOf s) (o .second)); writes = [] })
 commonDone PUSHR v f o = got (pushed 15 (reg (o .registers) 14) (o .registers) [] f)
-commonDone POPR v f o = do
-  r ← popped v 15 0 (o .registers)
-  got (record { registers = r; flags = f; writes = [] })
+commonDone POPR v f o = poppedDone v (o .registers) f
 commonDone (jump c) v f o = got (record { registers = pick (jumps c f) (set (o .registers) 15 (o .first)) (o .registers); flags = f; writes = [] })
 commonDone CALL v f o = got (called (o .first) (o .registers) f)
-commonDone RET v f o = do
-  w ← readBytes v Read 4 (virtual (reg (o .registers) 14))
-  got (returned w (o .registers) f)
+commonDone RET v f o = returnedDone v (o .registers) f
 
 -- ---- The command at R15
 

@@ -93,11 +93,15 @@ byForm v L r k =
 abbrev pub past : ℕ → Registers → Registers
 past n r = set r 15 (raised (reg r 15) n)
 
--- "fetch, form, address" of the operand at R15: "Inside an operand R15 is the address just after its six bytes". 14's argument is "the operand's place from 1"
+-- form and address of an operand, from its fields; 14's argument is "the operand's place from 1"
+abbrev pub formed : View → ℕ → ℕ → Registers → Fields → OrAlarm Operand
+formed v place L r k = pick (keepsRules L k) (byForm v L r k) (alarm 14 place)
+
+-- "fetch, form, address" of the operand at R15: "Inside an operand R15 is the address just after its six bytes"
 unfoldable pub operandAt : View → ℕ → ℕ → Registers → OrAlarm Operand
 operandAt v place L r = do
   k ← fieldsAt v (reg r 15)
-  pick (keepsRules L k) (byForm v L (past 6 r) k) (alarm 14 place)
+  formed v place L (past 6 r) k
 
 -- ---- What a role takes from an operand
 

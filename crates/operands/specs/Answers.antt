@@ -4,13 +4,13 @@ use mathlib.Core.Path.{_≡_}
 use Rattle.mi.specs.declared.Role.{Role}
 use Rattle.mi.specs.declared.Role.the-variants.{Value, Address, Destination, Update}
 use Rattle.mi.specs.declared.VirtualAddress.{VirtualAddress}
-use Rattle.mi.specs.Words.{pick, span}
+use Rattle.mi.specs.Words.{span}
 use Rattle.mi.specs.State.{Registers, reg}
 use Rattle.mi.specs.declared.Target.{Target}
 use Rattle.mi.specs.declared.Target.the-variants as target
 use Rattle.mi.specs.Alarms.{OrAlarm, got, alarm, _>>=_}
 use Rattle.mi.specs.Map.{View}
-use Rattle.mi.specs.Operands.{Fields, virtual, keepsRules, Location, immediate, register, memory, Operand, at, byForm, Taken, taken, takenBy, Operands as Given}
+use Rattle.mi.specs.Operands.{virtual, Location, immediate, register, memory, Operand, at, Taken, taken, takenBy, Operands as Given}
 use Rattle.access.specs.declared.Got.{Got}
 use Rattle.access.specs.Answers.{gotAs}
 use Rattle.operands.specs.declared.Spot.{Spot}
@@ -38,10 +38,6 @@ SmallSpot (spot.Alarm n x) = Unit {0}
 pub record Behind (p : Spot) (w : Got) (more : ℕ) : Type 0 where
   pub same : (r : Registers) → spotAs p r ≡ gotAs w >>= (λ a. at (memory (virtual (a + more))) r)
   pub small : SmallSpot p
-
--- form and address of an operand, from its fields
-abbrev pub formed : View → ℕ → ℕ → Registers → Fields → OrAlarm Operand
-formed v place L r k = pick (keepsRules L k) (byForm v L r k) (alarm 14 place)
 
 abbrev pub takenWith : OrAlarm ℕ → Target → OrAlarm Taken
 takenWith v t = v >>= (λ n. taken n t)
