@@ -1,29 +1,58 @@
 -- What an answer of `look` says of the view.
 use Prim.Native.Nat.{ℕ, _<_}
-use mathlib.Core.Path.{_≡_, sym, _∙_}
+use mathlib.Core.Path.{_≡_, sym, ap, _∙_}
+use mathlib.Core.Bool.{Bool, true, false}
+use lib.Dec.{ltb}
 use lib.ListN.{length}
 use Rattle.mi.specs.declared.RealAddress.{RealAddress}
 use Rattle.mi.specs.declared.VirtualAddress.{VirtualAddress}
 use Rattle.mi.specs.declared.Access.{Access}
-use Rattle.mi.specs.Words.{Memory}
-use Rattle.mi.specs.Alarms.{got}
-use Rattle.mi.specs.Map.{foundAt, viewBy}
+use Rattle.mi.specs.Words.{pick, Memory}
+use Rattle.mi.specs.State.{userMode}
+use Rattle.mi.specs.Alarms.{got, alarm}
+use Rattle.mi.specs.Map.{pageOf, mapEntry, present, frameOf, undamaged, Found, foundAt, inFrame, allows, inNumberOrder, mapped, realOf, unmapped, viewBy}
 use Rattle.mi.proofs.Pages.{Alarms, found-inside, Finds}
 use Rattle.access.specs.Answers.{Fits, lookupAs}
 use Rattle.access.specs.declared.Lookup.{Lookup}
 use Rattle.access.specs.declared.Lookup.the-variants.{At, Alarm}
 
+-- ---- An alarm of a view names the address that was looked up
+
+order-names : (b t s k : Bool) (x : VirtualAddress) (f : Found) (n y : ℕ) → inNumberOrder b t s k x f ≡ alarm n y → y ≡ x .0
+unfolding inNumberOrder
+order-names false t s k x f n y h = cc
+order-names true false s k x f n y h = cc
+order-names true true false k x f n y h = cc
+order-names true true true false x f n y h = cc
+order-names true true true true x f n y h = cc
+
+pick-names : (b : Bool) (x : VirtualAddress) (f : Found) (n y : ℕ) → pick b (got f) (alarm 8 (x .0)) ≡ alarm n y → y ≡ x .0
+pick-names true x f n y h = cc
+pick-names false x f n y h = cc
+
+view-names : (s : ℕ) (base : RealAddress) (entries : ℕ) (m : Memory) (x : VirtualAddress) (w : Access) (n y : ℕ) → viewBy s base entries m x w ≡ alarm n y → y ≡ x .0
+unfolding viewBy mapped unmapped
+view-names s base entries m x w n y = go (userMode s)
+  where
+    go : (u : Bool) → pick u (mapped base entries m) (unmapped m) x w ≡ alarm n y → y ≡ x .0
+    go true h = let e = mapEntry base m (pageOf x) in order-names (ltb (pageOf x) entries) (present e) (undamaged (length m) e) (allows w e) x (foundAt m (inFrame (frameOf e) x)) n y h
+    go false h = pick-names (ltb (x .0) (length m)) x (foundAt m (realOf x)) n y h
+
+-- ---- Answers
+
 look-hit : (s : ℕ) (base : RealAddress) (entries : ℕ) (m : Memory) (x : VirtualAddress) (w : Access) (q : Lookup) (a : RealAddress)
-    → q ≡ At a → lookupAs m x q ≡ viewBy s base entries m x w → viewBy s base entries m x w ≡ got (foundAt m a)
+    → q ≡ At a → lookupAs m q ≡ viewBy s base entries m x w → viewBy s base entries m x w ≡ got (foundAt m a)
 look-hit s base entries m x w q a e h = sym h ∙ rw e
 
 pub look-inside : (s : ℕ) (base : RealAddress) (entries : ℕ) (m : Memory) (x : VirtualAddress) (w : Access) (q : Lookup) (a : RealAddress)
-    → q ≡ At a → lookupAs m x q ≡ viewBy s base entries m x w → a .0 < length m
+    → q ≡ At a → lookupAs m q ≡ viewBy s base entries m x w → a .0 < length m
 look-inside s base entries m x w q a e h = found-inside s base entries m x w a (look-hit s base entries m x w q a e h)
 
 module _ {s : ℕ} {base : RealAddress} {entries : ℕ} {m : Memory} {x : VirtualAddress} {w : Access} {q : Lookup} where
-  pub look-found : {a : RealAddress} → q ≡ At a → lookupAs m x q ≡ viewBy s base entries m x w → Fits base entries m → x .0 < 0x1_0000_0000 → Finds s base entries m x w a
+  pub look-found : {a : RealAddress} → q ≡ At a → lookupAs m q ≡ viewBy s base entries m x w → Fits base entries m → x .0 < 0x1_0000_0000 → Finds s base entries m x w a
   look-found {a} e h fits small = record { small = small; whole = fits .whole; hit = look-hit s base entries m x w q a e h }
 
-  pub look-alarm : {n : ℕ} → q ≡ Alarm n → lookupAs m x q ≡ viewBy s base entries m x w → x .0 < 0x1_0000_0000 → Alarms s base entries m x w n
-  look-alarm e h small = record { small = small; miss = sym h ∙ rw e }
+  pub look-alarm : {n : ℕ} {y : VirtualAddress} → q ≡ Alarm n y → lookupAs m q ≡ viewBy s base entries m x w → x .0 < 0x1_0000_0000 → Alarms s base entries m x w n
+  look-alarm {n} {y} e h small =
+      let miss : viewBy s base entries m x w ≡ alarm n (y .0) = sym h ∙ rw e in
+      record { small = small; miss = miss ∙ ap (alarm n) (view-names s base entries m x w n (y .0) miss) }

@@ -26,10 +26,10 @@ pub record Fits (base : RealAddress) (entries : ℕ) (m : Memory) : Type 0 where
   pub small : length m ≤ 16777216
   pub whole : length m % 512 ≡ 0
 
--- a lookup of address x in memory m
-abbrev pub lookupAs : Memory → VirtualAddress → Lookup → OrAlarm Found
-lookupAs m x (lookup.At a) = got (foundAt m a)
-lookupAs m x (lookup.Alarm n) = alarm n (x .0)
+-- a lookup in memory m
+abbrev pub lookupAs : Memory → Lookup → OrAlarm Found
+lookupAs m (lookup.At a) = got (foundAt m a)
+lookupAs m (lookup.Alarm n x) = alarm n (x .0)
 
 abbrev pub gotAs : Got → OrAlarm ℕ
 gotAs (value.Value n) = got n

@@ -13,10 +13,10 @@ use mi::RealAddress;
 use mi::Size;
 use mi::VirtualAddress;
 
-// Where a byte lies, or the number of an alarm.
+// Where a byte lies, or the number of an alarm and the byte's address.
 pub enum Lookup {
     At(RealAddress),
-    Alarm(u32),
+    Alarm(u32, VirtualAddress),
 }
 
 // A value, or an alarm and its argument.
@@ -77,26 +77,26 @@ fn look_mapped(
     why: Access,
 ) -> Lookup
     requires { ⌜ Fits base entries (now mem) ⌝ }
-    ensures { λ r. ⌜ lookupAs (now (mem .entry)) x r ≡ mapped base entries (now (mem .entry)) x why ⌝ }
+    ensures { λ r. ⌜ lookupAs (now (mem .entry)) r ≡ mapped base entries (now (mem .entry)) x why ⌝ }
 {
     let p = x.0 / 512;
     if entries <= p {
-        return Lookup::Alarm(8);
+        return Lookup::Alarm(8, x);
     }
     let e = word(mem, (base.0 + 4 * p) as usize);
     if e < 0x8000_0000 {
-        return Lookup::Alarm(9);
+        return Lookup::Alarm(9, x);
     }
     let f = e % 0x4000_0000;
     if mem.len() / 512 <= f as usize {
-        return Lookup::Alarm(10);
+        return Lookup::Alarm(10, x);
     }
     match why {
         Access::Fetch => Lookup::At(in_frame(FrameNumber(f), x)),
         Access::Read => Lookup::At(in_frame(FrameNumber(f), x)),
         Access::Write => {
             if e % 0x8000_0000 < 0x4000_0000 {
-                return Lookup::Alarm(11);
+                return Lookup::Alarm(11, x);
             }
             Lookup::At(in_frame(FrameNumber(f), x))
         }
@@ -120,7 +120,7 @@ pub fn look(
     why: Access,
 ) -> Lookup
     requires { ⌜ Fits base entries (now mem) ⌝ }
-    ensures { λ r. ⌜ lookupAs (now (mem .entry)) x r ≡ viewBy status base entries (now (mem .entry)) x why ⌝ }
+    ensures { λ r. ⌜ lookupAs (now (mem .entry)) r ≡ viewBy status base entries (now (mem .entry)) x why ⌝ }
 {
     if status < 0x8000_0000 {
         return look_mapped(mem, base, entries, x, why);
@@ -128,7 +128,7 @@ pub fn look(
     if (x.0 as usize) < mem.len() {
         return Lookup::At(real(x));
     }
-    Lookup::Alarm(8)
+    Lookup::Alarm(8, x)
 }
 
 // ---- Reads
@@ -157,7 +157,7 @@ fn read_bytewise(
                 let at = r.0 as usize;
                 acc = acc * 256 + wide(mem[at]);
             }
-            Lookup::Alarm(k) => {
+            Lookup::Alarm(k, _) => {
                 return Got::Alarm(k, a);
             }
         }
@@ -199,7 +199,7 @@ pub fn read(
                 let v = value_at(mem, at, size);
                 return Got::Value(v);
             }
-            Lookup::Alarm(k) => {
+            Lookup::Alarm(k, _) => {
                 return Got::Alarm(k, x.0);
             }
         }
@@ -226,7 +226,7 @@ pub fn read_word(mem: &[u8], status: u32, base: RealAddress, entries: u32, x: Vi
                 let v = word(mem, at);
                 return Got::Value(v);
             }
-            Lookup::Alarm(k) => {
+            Lookup::Alarm(k, _) => {
                 return Got::Alarm(k, x.0);
             }
         }
@@ -260,7 +260,7 @@ pub fn fetch(
             let b = wide(mem[at]);
             CommandByte::Byte(b, r)
         }
-        Lookup::Alarm(k) => CommandByte::Alarm(k, x.0),
+        Lookup::Alarm(k, _) => CommandByte::Alarm(k, x.0),
     }
 }
 
@@ -325,7 +325,7 @@ fn fields_anew(
             Lookup::At(r) => {
                 return fields_at(mem, r.0 as usize);
             }
-            Lookup::Alarm(k) => {
+            Lookup::Alarm(k, _) => {
                 return OperandBytes::Alarm(k, x.0);
             }
         }
@@ -387,7 +387,7 @@ pub fn store_bytes(
             Lookup::At(r) => {
                 places[i] = r.0;
             }
-            Lookup::Alarm(k) => {
+            Lookup::Alarm(k, _) => {
                 return Stored::Alarm(k, a);
             }
         }
@@ -469,7 +469,7 @@ pub fn store(
                 value_to(mem, at, size, value);
                 return Stored::Done;
             }
-            Lookup::Alarm(k) => {
+            Lookup::Alarm(k, _) => {
                 return Stored::Alarm(k, x.0);
             }
         }
@@ -498,7 +498,7 @@ pub fn store_word(
                 value_to(mem, at, Size::W, value);
                 return Stored::Done;
             }
-            Lookup::Alarm(k) => {
+            Lookup::Alarm(k, _) => {
                 return Stored::Alarm(k, x.0);
             }
         }
