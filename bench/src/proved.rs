@@ -1,20 +1,13 @@
-//! The proved desk, through the archive.
+//! The proved desk, through the safe crate over the archive.
 
-use crate::state::{State, BYTES};
-
-extern "C" {
-    fn midesk_run(memory: *mut u8, length: usize, state: *mut u8, n: u64, steps: *mut u64) -> u32;
-}
+use crate::state::State;
+use midesk::Desk;
+use model::sequences::{packed, unpacked};
 
 /// At most `n` steps: their count, or the number of the refusal.
 pub fn run(memory: &mut [u8], state: &mut State, n: u64) -> Result<u64, u32> {
-    let mut bytes: [u8; BYTES] = state.to_bytes();
-    let mut steps = 0;
-    // SAFETY: memory, state and count are three separate borrows of the sizes that the call asks for.
-    let refusal = unsafe { midesk_run(memory.as_mut_ptr(), memory.len(), bytes.as_mut_ptr(), n, &mut steps) };
-    *state = State::from_bytes(&bytes);
-    match refusal {
-        0 => Ok(steps),
-        number => Err(number),
-    }
+    let mut desk = Desk::from_bytes(packed(&state.to_model()));
+    let answer = desk.run(memory, n);
+    *state = State::from_model(&unpacked(&desk.to_bytes()));
+    answer.map_err(|refusal| refusal.number())
 }
