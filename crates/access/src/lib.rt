@@ -111,7 +111,7 @@ pub fn real(x: VirtualAddress) -> RealAddress
 }
 
 // In the mode that the status tells.
-pub fn look(
+fn look(
     mem: &[u8],
     status: u32,
     base: RealAddress,
@@ -403,7 +403,7 @@ pub fn store_bytes(
 }
 
 // The bytes of a value to a place of memory.
-fn value_to(mem: &mut [u8], a: usize, size: Size, value: u32)
+pub fn value_to(mem: &mut [u8], a: usize, size: Size, value: u32)
     requires { ⌜ a + lengthOf size ≤ length (now mem) ⌝ }
     ensures { λ r. ⌜ now (mem .exit) ≡ commit (realWritesFrom a (bytesOf (lengthOf size) value)) (now (mem .entry)) ⌝ }
 {

@@ -2,11 +2,12 @@
 ghost use mathlib.Core.Path.{_≡_};
 ghost use Prim.Native.Nat.{_+_, _≤_};
 ghost use lib.ListN.{length, take, drop};
-ghost use Rattle.mi.specs.Words.{wordsAt, bytesOf};
+ghost use Rattle.mi.specs.Words.{wordsAt};
 ghost use Rattle.mi.specs.State.{entryR15, entryStatus, savedBytes, validStatus, validUserStatus, validKernelStatus, blockFits as blockFitsOf};
 ghost use Rattle.mi.specs.Map.{realWritesFrom, commit};
 ghost use Rattle.mi.specs.Steps.{due as dueOf};
 use mi::RealAddress;
+use mi::Size;
 
 // ---- Status words
 
@@ -38,16 +39,6 @@ pub fn block_fits(a: RealAddress, bytes: u64, n: usize) -> bool
     a.0 % 4 == 0 && a.0 as u64 + bytes <= n as u64
 }
 
-fn put_word(mem: &mut [u8], a: usize, w: u32)
-    requires { ⌜ a + 4 ≤ length (now mem) ⌝ }
-    ensures { λ r. ⌜ now (mem .exit) ≡ commit (realWritesFrom a (bytesOf 4 w)) (now (mem .entry)) ⌝ }
-{
-    mem[a] = (w / 0x100_0000 % 256) as u8;
-    mem[a + 1] = (w / 0x1_0000 % 256) as u8;
-    mem[a + 2] = (w / 256 % 256) as u8;
-    mem[a + 3] = (w % 256) as u8;
-}
-
 // A kernel entry's 72 saved bytes: R0 to R15, status and argument.
 pub fn save(mem: &mut [u8], control: RealAddress, regs: &[u32; 16], status: u32, argument: u32)
     requires { ⌜ control .0 + 72 ≤ length (now mem) ⌝ }
@@ -56,11 +47,11 @@ pub fn save(mem: &mut [u8], control: RealAddress, regs: &[u32; 16], status: u32,
     let at = control.0 as usize;
     let mut i: usize = 0;
     while i < 16 {
-        put_word(mem, at + 4 * i, regs[i]);
+        access::value_to(mem, at + 4 * i, Size::W, regs[i]);
         i += 1;
     }
-    put_word(mem, at + 64, status);
-    put_word(mem, at + 68, argument);
+    access::value_to(mem, at + 64, Size::W, status);
+    access::value_to(mem, at + 68, Size::W, argument);
 }
 
 // R0 to R15 of the control block at a place of memory.

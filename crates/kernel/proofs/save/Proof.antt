@@ -28,20 +28,20 @@ cast-at c = search needs
 loop-holds : tie.Need-loop-holds Inv-loop μ-loop
 loop-holds c = (search needs, refl, unfold savedBytes in rw add-zero)
 
-mul-put-word : tie.Need-mul-put-word Inv-loop μ-loop
-mul-put-word c = search needs
+mul-value-to : tie.Need-mul-value-to Inv-loop μ-loop
+mul-value-to c = search needs
 
-add-put-word : tie.Need-add-put-word Inv-loop μ-loop
-add-put-word c = search needs
+add-value-to : tie.Need-add-value-to Inv-loop μ-loop
+add-value-to c = search needs
 
-mul-put-word-2 : tie.Need-mul-put-word-2 Inv-loop μ-loop
-mul-put-word-2 c = search needs
+mul-value-to-2 : tie.Need-mul-value-to-2 Inv-loop μ-loop
+mul-value-to-2 c = search needs
 
-element-copy-out-put-word : tie.Need-element-copy-out-put-word Inv-loop μ-loop
-element-copy-out-put-word c = search needs
+element-copy-out-value-to : tie.Need-element-copy-out-value-to Inv-loop μ-loop
+element-copy-out-value-to c = search needs
 
-put-word-requires : tie.Need-put-word-requires Inv-loop μ-loop
-put-word-requires c κs = search needs
+value-to-requires : tie.Need-value-to-requires Inv-loop μ-loop
+value-to-requires c κs = search needs
 
 add-i : tie.Need-add-i Inv-loop μ-loop
 add-i c = search needs
@@ -55,21 +55,21 @@ loop-again c =
     let b = d .before .before .before .before in
     let a = b .before .before .before .args in (
       omega arith,
-      d .put-word .kept .0 ∙ b .loop .inv .1,
-      rw (d .put-word .ensures) (sym (commit-registers 16 (b .loop .i) (a .regs .now) (a .status ∷ a .argument ∷ []) (a .control .0) (b .loop .mem) (omega arith)) ∙ b .loop .inv .2),
+      d .value-to .kept .0 ∙ b .loop .inv .1,
+      rw (d .value-to .ensures) (sym (commit-registers 16 (b .loop .i) (a .regs .now) (a .status ∷ a .argument ∷ []) (a .control .0) (b .loop .mem) (omega arith)) ∙ b .loop .inv .2),
     )
 
-add-put-word-2 : tie.Need-add-put-word-2 Inv-loop μ-loop
-add-put-word-2 c = search needs
+add-value-to-2 : tie.Need-add-value-to-2 Inv-loop μ-loop
+add-value-to-2 c = search needs
 
-put-word-requires-2 : tie.Need-put-word-requires-2 Inv-loop μ-loop
-put-word-requires-2 c κs = search needs
+value-to-requires-2 : tie.Need-value-to-requires-2 Inv-loop μ-loop
+value-to-requires-2 c κs = search needs
 
-add-put-word-3 : tie.Need-add-put-word-3 Inv-loop μ-loop
-add-put-word-3 c = search needs
+add-value-to-3 : tie.Need-add-value-to-3 Inv-loop μ-loop
+add-value-to-3 c = search needs
 
-put-word-requires-3 : tie.Need-put-word-requires-3 Inv-loop μ-loop
-put-word-requires-3 c κs = search needs
+value-to-requires-3 : tie.Need-value-to-requires-3 Inv-loop μ-loop
+value-to-requires-3 c κs = search needs
 
 same-length : tie.Need-same-length Inv-loop μ-loop
 same-length c = search needs
@@ -83,7 +83,7 @@ returns c =
     let a = b .before .before .before .args in
     let all : b .loop .i ≡ 16 = omega arith in
     let next : a .control .0 + 68 ≡ a .control .0 + 64 + 4 = omega arith in
-    rw (d .put-word3 .ensures, e .put-word2 .ensures, next) (sym (commit-pair (a .status) (a .argument) (a .control .0 + 64) (b .loop .mem)) ∙ rw all at (b .loop .inv .2))
+    rw (d .value-to3 .ensures, e .value-to2 .ensures, next) (sym (commit-pair (a .status) (a .argument) (a .control .0 + 64) (b .loop .mem)) ∙ rw all at (b .loop .inv .2))
 
 pub save-spec : {M : Type 1} → statement M
 save-spec =
@@ -93,17 +93,17 @@ save-spec =
     μ-loop
     cast-at
     loop-holds
-    mul-put-word
-    add-put-word
-    mul-put-word-2
-    element-copy-out-put-word
-    put-word-requires
+    mul-value-to
+    add-value-to
+    mul-value-to-2
+    element-copy-out-value-to
+    value-to-requires
     add-i
     loop-less
     loop-again
-    add-put-word-2
-    put-word-requires-2
-    add-put-word-3
-    put-word-requires-3
+    add-value-to-2
+    value-to-requires-2
+    add-value-to-3
+    value-to-requires-3
     same-length
     returns)
