@@ -3,9 +3,9 @@
 use crate::contender::Contender;
 use crate::loops::Loop;
 
-pub const USAGE: &str = "bench/run [ROUNDS] [--loop LOOP]              the table, of one loop where named; ROUNDS else as many as 2 minutes give
+pub const USAGE: &str = "bench/run [ROUNDS] [--loop LOOP]              the table, of one loop where named (default: as many rounds as 2 minutes allow)
 bench/run --loop LOOP --count N [--desk DESK]  N commands of one desk, once, for a profiler
-LOOP: reg-kernel, reg-user, mem-kernel, mem-user; DESK: proved (else), bytewise, word, model";
+LOOP: reg-kernel, reg-user, mem-kernel, mem-user; DESK: proved (default), bytewise, word, model";
 
 pub struct Single {
     pub which: Loop,
@@ -23,7 +23,7 @@ pub fn parse(arguments: impl Iterator<Item = String>) -> Result<Options, String>
     let (mut which, mut count, mut contender, mut rounds) = (None, None, None, None);
     let mut arguments = arguments;
     while let Some(argument) = arguments.next() {
-        let mut value = || arguments.next().ok_or_else(|| wrong(&format!("{argument} wants a value")));
+        let mut value = || arguments.next().ok_or_else(|| wrong(&format!("{argument} needs a value")));
         match argument.as_str() {
             "--loop" => which = Some(Loop::named(&value()?).ok_or_else(|| wrong("no such loop"))?),
             "--count" => count = Some(value()?.parse().map_err(|_| wrong("the count is a number"))?),

@@ -62,7 +62,7 @@ fn program(kind: Kind) -> Vec<u8> {
     code
 }
 
-/// The simulator's commands for a loop of so many turns.
+/// The simulator's commands for a loop of that many turns.
 fn script(which: Loop, turns: u32) -> String {
     let user = which.mode == Mode::User;
     let mut lines = String::new();

@@ -1,4 +1,4 @@
--- Demand 3 of the mission, with the last paragraph of document 01's "One step": a single claim about a list of steps and level requests, given alike to
+-- Demand 3, with the last paragraph of document 01's "One step": a single claim about a list of steps and level requests, given alike to
 -- two desks in user mode that are equal except in memory. No validity of state or memory is assumed. The words "reached", "writable reached" and "the map's
 -- bytes" are those of Map.antt, and mean the map as it is before the first call.
 use Prim.Native.Nat.{ℕ, suc, _+_, _≤_, _<_}

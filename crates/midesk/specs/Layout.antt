@@ -1,4 +1,4 @@
--- The state of a desk as 90 bytes, each value highest byte first. Every 90 bytes are one state, and no two are the same.
+-- The state of a desk as 90 bytes, each value highest byte first. Every 90 bytes are one state, and no two are the same state.
 --
 --    0  R0 to R15, four bytes each
 --   64  status word
@@ -19,7 +19,7 @@ use Rattle.mi.specs.Words.{pick, byteAt, bytesOf, bytesOfWords, wordAt, wordsAt
 abbrev pub stateBytes : ℕ
 stateBytes = 90
 
--- the word that says that a desk runs: no desk stops with this number
+-- the word that says that a desk runs: no call stops a desk with this number (proofs/Stops.antt)
 abbrev pub runs : ℕ
 runs = 0xFFFF_FFFF
 
