@@ -1,6 +1,5 @@
 //! The desk against the model, in one process: the generator's cases and random sequences of calls, valid and damaged.
-//! MIDESK_SEED, MIDESK_FIRST and MIDESK_COUNT choose other random sequences: that many of the
-//! seed, from the first on.
+//! MIDESK_SEED, MIDESK_FIRST and MIDESK_COUNT choose other random sequences: the seed, the first one's index, how many.
 //!
 //! A sequence that differs is named by the command that writes it alone, to be used in `model`.
 
