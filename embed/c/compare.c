@@ -139,6 +139,12 @@ static void on_alarm(int number)
 
 /* ---- The input. */
 
+/* The acts, by their numbers in the input: the four calls, then what the caller does itself. */
+enum act { FRESH, STEP, RUN, REQUEST, PUT_STATE, PUT_MEMORY, PUT_LENGTH, ACTS };
+
+static const char *const act_names[ACTS] = {"fresh", "step", "run", "request", "the caller's state",
+                                            "the caller's memory", "the caller's length"};
+
 struct reader {
     const uint8_t *at, *end;
 };
@@ -169,8 +175,8 @@ static void get(void *to, size_t n)
         bad_input(ferror(stdin) ? "it cannot be read" : "it is cut short");
 }
 
-/* Makes the changes in bytes[0 .. len]. Answers their number. */
-static uint32_t change(struct reader *r, uint8_t *bytes, size_t len)
+/* Makes the changes in bytes[0 .. len]. */
+static void change(struct reader *r, uint8_t *bytes, size_t len)
 {
     uint32_t places = take_u32(r), i;
     for (i = 0; i < places; i++) {
@@ -179,7 +185,6 @@ static uint32_t change(struct reader *r, uint8_t *bytes, size_t len)
             bad_input("a change lies past the memory");
         memcpy(bytes + at, take(r, n), n);
     }
-    return places;
 }
 
 /* ---- Comparing. */
@@ -272,8 +277,8 @@ static int run_as_steps(uint64_t n, uint32_t answer, uint64_t made, const uint8_
         && same_bytes("memory of the steps against that of the run", memory.at, after, memory.len);
 }
 
-/* Makes one call and compares. The arguments are read already but for what is expected. */
-static int call(struct reader *r, unsigned kind, const uint32_t words[3], uint64_t n)
+/* Makes one call and compares. Its arguments are read already; what is expected of it is read here. */
+static int call(struct reader *r, unsigned act, const uint32_t words[3], uint64_t n)
 {
     uint8_t before[STATE];
     const uint8_t *want_state;
@@ -281,31 +286,31 @@ static int call(struct reader *r, unsigned kind, const uint32_t words[3], uint64
     int ok, is_refused;
     memcpy(before, state.at, STATE);
     memset(count.at, FILL, sizeof made);
-    switch (kind) {
-    case 0: answer = midesk_fresh(memory.at, memory.len, words[0], words[1], words[2], state.at); break;
-    case 1: answer = midesk_step(memory.at, memory.len, state.at); break;
-    case 2:
+    switch (act) {
+    case FRESH: answer = midesk_fresh(memory.at, memory.len, words[0], words[1], words[2], state.at); break;
+    case STEP: answer = midesk_step(memory.at, memory.len, state.at); break;
+    case RUN:
         answer = call_run(n);
         made = get_count();
         break;
     default: answer = midesk_request(state.at, words[0]); break;
     }
-    want = kind == 1 ? take_u64(r) : take_u32(r);
-    if (kind == 2)
+    want = act == STEP ? take_u64(r) : take_u32(r);
+    if (act == RUN)
         want_made = take_u64(r);
     want_state = take(r, STATE);
-    is_refused = kind == 1 ? midesk_kind(answer) == MIDESK_REFUSED : answer != 0;
+    is_refused = act == STEP ? midesk_kind(answer) == MIDESK_REFUSED : answer != MIDESK_OK;
     if (first_time) {
         calls++;
         refused += (unsigned long)is_refused;
-        runs += kind == 2;
+        runs += act == RUN;
     }
     ok = same_number("the answer", answer, want) && same_number("the step count", made, want_made)
-        && (kind == 0 || !is_refused || same_bytes("state of a refused call", state.at, before, STATE))
+        && (act == FRESH || !is_refused || same_bytes("state of a refused call", state.at, before, STATE))
         && same_bytes("state", state.at, want_state, STATE) && all_kept();
-    if (ok && (is_refused || kind == 0 || kind == 3))
+    if (ok && (is_refused || act == FRESH || act == REQUEST))
         ok = same_bytes("memory of a call that leaves it alone", memory.at, expected, memory.len);
-    if (ok && kind == 2)
+    if (ok && act == RUN)
         ok = run_as_steps(n, (uint32_t)answer, made, before);
     change(r, expected, memory.len);
     return ok && same_bytes("memory", memory.at, expected, memory.len) && all_kept();
@@ -330,7 +335,14 @@ static int helpers(void)
     return same_bytes("state as the helpers copy it", copy, state.at, STATE);
 }
 
-/* Lends a memory of this length from here on, with the bytes that are expected. */
+/* Gives the memory the bytes that are expected. */
+static void fill_memory(void)
+{
+    if (memory.len != 0)
+        memcpy(memory.at, expected, memory.len);
+}
+
+/* Lends a memory of this length from here on: cut, or longer by zeros. */
 static void lend(size_t len, int high)
 {
     if (len > LONGEST)
@@ -338,58 +350,51 @@ static void lend(size_t len, int high)
     if (len > memory.len)
         memset(expected + memory.len, 0, len - memory.len);
     place(&memory, len, high);
-    if (len != 0)
-        memcpy(memory.at, expected, len);
+    fill_memory();
+}
+
+/* The changes that the caller makes in the memory. */
+static void change_memory(struct reader *r)
+{
+    change(r, expected, memory.len);
+    fill_memory();
 }
 
 static int play(struct reader r, int high)
 {
-    static const char *const names[] = {"fresh", "step", "run", "request", "the caller's state", "the caller's memory",
-                                        "the caller's length"};
     uint32_t acts, i;
-    size_t length;
     now_place = high ? "at the upper guard" : "at the lower guard";
     first_time = !high;
     now_act = 0;
     now_call = "start";
-    length = take_u32(&r);
-    if (length > LONGEST)
-        bad_input("a memory length is too great");
     memory.len = 0;
-    memset(expected, 0, length);
-    change(&r, expected, length);
-    place(&memory, length, high);
-    if (length != 0)
-        memcpy(memory.at, expected, length);
+    lend(take_u32(&r), high);
+    change_memory(&r);
     place(&state, STATE, high);
     place(&count, sizeof(uint64_t), high);
     memcpy(state.at, take(&r, STATE), STATE);
     acts = take_u32(&r);
     for (i = 0; i < acts; i++) {
-        unsigned kind = *take(&r, 1);
+        unsigned act = *take(&r, 1);
         uint32_t words[3] = {0, 0, 0};
         uint64_t n = 0;
         int k;
         now_act = i;
-        now_call = kind < 7 ? names[kind] : "?";
-        switch (kind) {
-        case 0:
+        now_call = act < ACTS ? act_names[act] : "?";
+        switch (act) {
+        case FRESH:
             for (k = 0; k < 3; k++)
                 words[k] = take_u32(&r);
             break;
-        case 1: break;
-        case 2: n = take_u64(&r); break;
-        case 3: words[0] = take_u32(&r); break;
-        case 4: memcpy(state.at, take(&r, STATE), STATE); break;
-        case 5:
-            change(&r, expected, memory.len);
-            if (memory.len != 0)
-                memcpy(memory.at, expected, memory.len);
-            break;
-        case 6: lend(take_u32(&r), high); break;
+        case STEP: break;
+        case RUN: n = take_u64(&r); break;
+        case REQUEST: words[0] = take_u32(&r); break;
+        case PUT_STATE: memcpy(state.at, take(&r, STATE), STATE); break;
+        case PUT_MEMORY: change_memory(&r); break;
+        case PUT_LENGTH: lend(take_u32(&r), high); break;
         default: bad_input("an act of no kind");
         }
-        if (kind < 4 && !call(&r, kind, words, n))
+        if (act <= REQUEST && !call(&r, act, words, n))
             return 0;
         if (!helpers())
             return 0;

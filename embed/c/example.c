@@ -1,4 +1,5 @@
-/* The program of document 01's example on a fresh desk: MOVE B I 2,R0, then HALT. Prints the stop's number and R0. */
+/* The program of document 01's example on a fresh desk: MOVE B I 2,R0, then HALT. Prints the steps, the
+   stop's number and R0. */
 #include <stdio.h>
 #include <string.h>
 

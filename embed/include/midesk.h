@@ -5,28 +5,38 @@
  * 90 bytes that you hold; the library keeps nothing between calls, allocates nothing and has no other input or output.
  * Any number of desks may be used at once, in any number of threads.
  *
+ *     #include <stdio.h>
  *     #include "midesk.h"
  *
- *     static uint8_t memory[1024];             // 0: system block, 256: control block, 512: the program
- *     uint8_t desk[MIDESK_STATE_BYTES];
- *     uint64_t steps;
- *     memory[512] = 0x00;                      // HALT
- *     if (midesk_fresh(memory, sizeof memory, 0, 256, 512, desk) == MIDESK_OK
- *         && midesk_run(memory, sizeof memory, desk, 1000, &steps) == MIDESK_OK
- *         && !midesk_running(desk))
- *         printf("stopped with %u after %u steps\n", (unsigned)midesk_mark(desk), (unsigned)steps);
+ *     int main(void)
+ *     {
+ *         static uint8_t memory[1024];         // 0: system block, 256: control block, 512: the program
+ *         uint8_t desk[MIDESK_STATE_BYTES];
+ *         uint64_t steps;
+ *         memory[512] = 0x00;                  // HALT
+ *         if (midesk_fresh(memory, sizeof memory, 0, 256, 512, desk) == MIDESK_OK
+ *             && midesk_run(memory, sizeof memory, desk, 1000, &steps) == MIDESK_OK
+ *             && !midesk_running(desk))
+ *             printf("stopped with %u after %u steps\n", (unsigned)midesk_mark(desk), (unsigned)steps);
+ *         return 0;
+ *     }
  *
- * Link it with target/staticlib/libmidesk.a.
+ * Link it with target/staticlib/libmidesk.a. c/user_mode.c beside this folder shows user mode, a map and an interrupt.
  *
- * What you must see to, since no call can check it:
- *   - mem points to len bytes that may be read and, but for midesk_fresh, written; where len is 0, any pointer will do,
- *     a null pointer too;
+ * What you must ensure, since no call can check it:
+ *   - mem points to len bytes that may be read and, except for midesk_fresh, written; where len is 0, any pointer will
+ *     do, a null pointer too;
  *   - state points to 90 bytes that may be read and written, steps to a uint64_t that may be written;
  *   - these do not overlap, and no other thread uses them during the call.
  * Nothing else: every content of memory and state, every length and every number is answered. What cannot be used is
- * refused by a number from 1 to 7, with state and memory as they were.
+ * refused by a number from 1 to 7. A refused call changes neither state nor memory, with one exception: midesk_fresh,
+ * when refused, replaces the state by the all-zero desk stopped with that number.
  *
- * A number ending in h is hexadecimal. "Document 01" is the paper that defines the desk.
+ * The inline functions at the end only read and write bytes; they check nothing, and each says what it needs.
+ *
+ * A number ending in h is hexadecimal. "Document 01" is the paper that defines the desk; in the repository
+ * crates/mi/specs defines it, crates/mi/specs/Code.antt the bytes of the commands, of which examples/README.md has
+ * examples.
  */
 #ifndef MIDESK_H
 #define MIDESK_H
@@ -68,6 +78,41 @@ extern "C" {
 #define MIDESK_V 2u
 #define MIDESK_C 1u
 
+/*
+ * What the desk uses in memory: two blocks and a map, words highest byte first. The constants for the blocks are places
+ * from the block's first byte.
+ *
+ * System block, 256 bytes: for each cause of a kernel entry the R15 and the status word with which the kernel goes on.
+ * That status must have MIDESK_KERNEL and no undefined bit; otherwise the desk stops with 16 instead of entering.
+ */
+#define MIDESK_SYSTEM_PC(cause) (8 * (size_t)(cause))         /* new R15, cause from 0 to 31 */
+#define MIDESK_SYSTEM_STATUS(cause) (8 * (size_t)(cause) + 4) /* new status word */
+
+/*
+ * Control block, 80 bytes: R0 to R15 at MIDESK_REGISTER(i), then four words more. A kernel entry writes R0 to R15,
+ * status and argument, the first 72 bytes. It saves as R15 the address of the next command for a system call and an
+ * interrupt, the command's own for an alarm. The map base and map length in the block are not written.
+ *
+ * The command RESUME leads to user mode: it loads R0 to R15, status, map base and map length from the block at its
+ * address, which becomes the control block. A block that MIDESK_REFUSED_CONTROL_BLOCK or MIDESK_REFUSED_MAP would
+ * refuse, or a status with MIDESK_KERNEL or an undefined bit, is alarm 14.
+ */
+#define MIDESK_CONTROL_STATUS 64     /* status word */
+#define MIDESK_CONTROL_ARGUMENT 68   /* system call: its value; interrupt: the level; alarms 8 to 11: the byte's
+                                        address; 12 and 13: the command byte; 14: the operand's place, from 1;
+                                        15: zero */
+#define MIDESK_CONTROL_MAP_BASE 72   /* map base */
+#define MIDESK_CONTROL_MAP_LENGTH 76 /* map length in entries */
+
+/*
+ * Map, used in user mode alone: page p, the addresses from 512 x p to 512 x p + 511, has the word at map base + 4 x p.
+ * In an entry that is not present the other bits mean nothing. In a present one the six bits between
+ * MIDESK_MAP_WRITABLE and MIDESK_MAP_FRAME must be 0, and the frame must lie in memory; otherwise its use is alarm 10.
+ */
+#define MIDESK_MAP_PRESENT 0x80000000u
+#define MIDESK_MAP_WRITABLE 0x40000000u
+#define MIDESK_MAP_FRAME 0x00FFFFFFu /* the frame's number f: the 512 bytes from real address 512 x f */
+
 /* Lengths of memory that are allowed: multiples of MIDESK_FRAME_BYTES up to MIDESK_MAX_MEMORY, but not 0. */
 #define MIDESK_FRAME_BYTES 512
 #define MIDESK_MAX_MEMORY 16777216
@@ -77,10 +122,11 @@ extern "C" {
 #define MIDESK_REFUSED_LENGTH 1u        /* the memory length is not allowed */
 #define MIDESK_REFUSED_SYSTEM_BLOCK 2u  /* the system block's address is no multiple of 4, or the block does not fit */
 #define MIDESK_REFUSED_CONTROL_BLOCK 3u /* the control block's address is no multiple of 4, or the block does not fit */
-#define MIDESK_REFUSED_MAP 4u           /* the map base is no multiple of 4, or the map (empty too) ends past memory */
+#define MIDESK_REFUSED_MAP 4u           /* the map base is no multiple of 4, or map base + 4 x map length is above the
+                                           memory length (also where the map length is 0) */
 #define MIDESK_REFUSED_STATUS 5u        /* status has an undefined bit, or the pending set has level 0's bit */
 #define MIDESK_REFUSED_LEVEL 6u         /* a requested level is 0 or above 15 */
-#define MIDESK_REFUSED_STOPPED 7u       /* a step or run was wanted of a stopped desk */
+#define MIDESK_REFUSED_STOPPED 7u       /* a stopped desk was asked to step or run */
 
 /* The kinds of midesk_step's answer: midesk_kind(answer). */
 #define MIDESK_DONE 0u    /* a command was carried out; the number is 0 */
@@ -88,11 +134,14 @@ extern "C" {
 #define MIDESK_ENTERED 2u /* the kernel was entered; the number is the cause */
 #define MIDESK_STOPPED 3u /* the desk has stopped; the number is the one that it stopped with */
 
-/* Alarms. In user mode each is the cause of a kernel entry, in kernel mode the number of a stop. */
+/*
+ * Alarms. In user mode each is the cause of a kernel entry (or there is stop 16, where the system block's entry is not
+ * valid). In kernel mode 8 and 12 to 15 are the number of a stop; 9 to 11 do not occur.
+ */
 #define MIDESK_ALARM_ADDRESS 8u     /* the page is at or past the map length, or in kernel mode the byte lies
                                        past the memory */
 #define MIDESK_ALARM_ABSENT 9u      /* the map's entry is absent */
-#define MIDESK_ALARM_ENTRY 10u      /* a present entry has a forbidden bit, or its frame lies past the memory */
+#define MIDESK_ALARM_MAP_ENTRY 10u  /* a present entry has a forbidden bit, or its frame lies past the memory */
 #define MIDESK_ALARM_READ_ONLY 11u  /* a write meets an entry that is not writable */
 #define MIDESK_ALARM_COMMAND 12u    /* the command byte is unknown */
 #define MIDESK_ALARM_MODE 13u       /* HALT or RESUME in user mode, or a system call in kernel mode */
@@ -104,26 +153,26 @@ extern "C" {
 #define MIDESK_CAUSE_INTERRUPT(level) (16u + (uint32_t)(level)) /* level 1 to 15 */
 
 /* Other numbers of a stop. */
-#define MIDESK_STOP_HALT 0u   /* the command HALT */
-#define MIDESK_STOP_ENTRY 16u /* the system block's entry holds no valid kernel status */
+#define MIDESK_STOP_HALT 0u          /* the command HALT */
+#define MIDESK_STOP_SYSTEM_ENTRY 16u /* the system block's entry holds no valid kernel status */
 
 /*
- * Makes a fresh desk over this memory: zero registers but R15 = start, kernel mode, level 0, flags 0, no map, nothing
- * pending, running. system and control are the real addresses of the two blocks; start is not checked. What state held
- * before does not matter, and of the memory only the length does.
+ * Makes a fresh desk over this memory: zero registers except R15 = start, kernel mode, level 0, flags 0, no map,
+ * nothing pending, running. system and control are the real addresses of the two blocks; start is not checked. What
+ * state held before does not matter, and of the memory only the length does.
  *
- * Answers MIDESK_OK, or MIDESK_REFUSED_LENGTH, _SYSTEM_BLOCK or _CONTROL_BLOCK; refusing, it writes the all-zero desk
- * stopped with that number.
+ * Answers MIDESK_OK, or MIDESK_REFUSED_LENGTH, _SYSTEM_BLOCK or _CONTROL_BLOCK. When refused, what state held is lost:
+ * it becomes the all-zero desk stopped with that number.
  */
 uint32_t midesk_fresh(const uint8_t *mem, size_t len, uint32_t system, uint32_t control, uint32_t start,
                       uint8_t state[MIDESK_STATE_BYTES]);
 
 /*
- * One step: in user mode the highest pending level above the status level is entered; otherwise one command runs.
- * state and memory become what document 01 says.
+ * One step: in user mode the highest pending level above the status level is entered and its pending bit cleared;
+ * otherwise one command runs. state and memory become what document 01 says.
  *
- * The answer is a kind and a number: take them with midesk_kind and midesk_number. Refused (MIDESK_REFUSED_LENGTH to
- * _STATUS and _STOPPED, tried in this order), state and memory are as they were.
+ * The answer is a kind and a number: take them with midesk_kind and midesk_number. When refused (MIDESK_REFUSED_LENGTH
+ * to _STATUS and _STOPPED, tried in this order), state and memory are as they were.
  */
 uint64_t midesk_step(uint8_t *mem, size_t len, uint8_t state[MIDESK_STATE_BYTES]);
 
@@ -132,16 +181,17 @@ uint64_t midesk_step(uint8_t *mem, size_t len, uint8_t state[MIDESK_STATE_BYTES]
  * do not end it. *steps becomes the number of steps made, the stopping one and entries included; 0 when refused. A run
  * of 0 steps makes the same checks and changes nothing.
  *
- * Answers MIDESK_OK or a refusal as midesk_step has them; refused, state and memory are as they were. Look at
+ * Answers MIDESK_OK or a refusal as midesk_step has them; when refused, state and memory are as they were. Look at
  * midesk_running(state) for whether the desk has stopped, and at midesk_mark(state) for the number.
  */
 uint32_t midesk_run(uint8_t *mem, size_t len, uint8_t state[MIDESK_STATE_BYTES], uint64_t n, uint64_t *steps);
 
 /*
- * Requests an interrupt of a level from 1 to 15: sets its bit in the pending set, on a stopped desk too. The level is
- * entered by a later step in user mode.
+ * Requests an interrupt of a level from 1 to 15: sets its bit in the pending set, on a stopped desk too. It is entered
+ * by the first step in user mode at which it is the highest pending level and above the status level; that clears its
+ * bit.
  *
- * Answers MIDESK_OK, MIDESK_REFUSED_STATUS or MIDESK_REFUSED_LEVEL; refused, state is as it was.
+ * Answers MIDESK_OK, MIDESK_REFUSED_STATUS or MIDESK_REFUSED_LEVEL; when refused, state is as it was.
  */
 uint32_t midesk_request(uint8_t state[MIDESK_STATE_BYTES], uint32_t level);
 
@@ -157,13 +207,13 @@ static inline uint32_t midesk_number(uint64_t answer)
     return (uint32_t)(answer & 0xFFFFFFFFu);
 }
 
-/* A word of the state, by its place: midesk_word(state, MIDESK_STATUS). Of a memory too. */
+/* The word of the four bytes from at on: midesk_word(state, MIDESK_STATUS). Works on memory as well. */
 static inline uint32_t midesk_word(const uint8_t *bytes, size_t at)
 {
     return (uint32_t)bytes[at] << 24 | (uint32_t)bytes[at + 1] << 16 | (uint32_t)bytes[at + 2] << 8 | bytes[at + 3];
 }
 
-/* Puts a word into the state, by its place. Into a memory too. */
+/* Sets the word of the four bytes from at on. Works on memory as well. */
 static inline void midesk_set_word(uint8_t *bytes, size_t at, uint32_t value)
 {
     bytes[at] = (uint8_t)(value >> 24);
@@ -172,12 +222,13 @@ static inline void midesk_set_word(uint8_t *bytes, size_t at, uint32_t value)
     bytes[at + 3] = (uint8_t)value;
 }
 
-/* R0 to R15, i from 0 to 15. */
+/* Register Ri. i must be 0 to 15. */
 static inline uint32_t midesk_register(const uint8_t *state, unsigned i)
 {
     return midesk_word(state, MIDESK_REGISTER(i));
 }
 
+/* Sets register Ri. i must be 0 to 15. */
 static inline void midesk_set_register(uint8_t *state, unsigned i, uint32_t value)
 {
     midesk_set_word(state, MIDESK_REGISTER(i), value);
@@ -189,6 +240,7 @@ static inline uint16_t midesk_pending(const uint8_t *state)
     return (uint16_t)((unsigned)state[MIDESK_PENDING] << 8 | state[MIDESK_PENDING + 1]);
 }
 
+/* Sets the pending set. With level 0's bit, of value 1, the calls refuse the state (MIDESK_REFUSED_STATUS). */
 static inline void midesk_set_pending(uint8_t *state, uint16_t levels)
 {
     state[MIDESK_PENDING] = (uint8_t)(levels >> 8);

@@ -88,7 +88,7 @@ pub enum Event {
     Stop(u32),
 }
 
-/// Answer of a step. `refusal` is 0 or 1 to 7; refused, `event` is `Plain`.
+/// Answer of a step. `refusal` is 0 or 1 to 7; when refused, `event` is `Plain`.
 #[derive(Clone, Copy, PartialEq, Eq, Debug)]
 pub struct Stepped {
     pub refusal: u32,

@@ -2,23 +2,24 @@
 
 use std::fmt;
 
-/// Why a call was refused, with document 01's numbers 1 to 7. Refused, a call has changed nothing.
+/// Why a call was refused, with document 01's numbers 1 to 7. A refused call has changed nothing.
 #[derive(Clone, Copy, PartialEq, Eq, Hash, Debug)]
 #[repr(u32)]
 pub enum Refusal {
-    /// The memory length is not allowed: a multiple of 512, from 512 to 16,777,216.
+    /// The memory length is not allowed. Allowed are the multiples of 512 from 512 to 16,777,216.
     Length = 1,
     /// The system block's address is no multiple of 4, or the block doesn't fit.
     SystemBlock = 2,
     /// The control block's address is no multiple of 4, or the block doesn't fit.
     ControlBlock = 3,
-    /// The map base is no multiple of 4, or the map ends past the memory.
+    /// The map base is no multiple of 4, or map base + 4 × map length is above the memory length (also where the map
+    /// length is 0).
     Map = 4,
     /// Status has an undefined bit, or the pending set has level 0's bit.
     Status = 5,
     /// A requested level is 0 or above 15.
     Level = 6,
-    /// A step or run was wanted of a stopped desk.
+    /// A stopped desk was asked to step or run.
     Stopped = 7,
 }
 
@@ -41,7 +42,7 @@ impl fmt::Display for Refusal {
             Refusal::Length => "the memory length is not allowed",
             Refusal::SystemBlock => "the system block's address is no multiple of 4, or the block does not fit",
             Refusal::ControlBlock => "the control block's address is no multiple of 4, or the block does not fit",
-            Refusal::Map => "the map base is no multiple of 4, or the map ends past the memory",
+            Refusal::Map => "the map base is no multiple of 4, or map base + 4 x map length is above the memory length",
             Refusal::Status => "the status has an undefined bit, or the pending set has level 0's bit",
             Refusal::Level => "the requested level is 0 or above 15",
             Refusal::Stopped => "the desk is stopped",
@@ -58,8 +59,8 @@ pub enum Event {
     Done,
     /// The kernel was entered, with this cause: 1 a system call, 8 to 15 an alarm, 16 + level an interrupt.
     Entered(u32),
-    /// The desk has stopped with this number: 0 HALT, 8 to 15 an alarm in kernel mode, 16 no valid entry of the system
-    /// block.
+    /// The desk has stopped with this number: 0 HALT; 8, 12 to 15 an alarm in kernel mode; 16 no valid entry of the
+    /// system block.
     Stopped(u32),
 }
 
@@ -68,7 +69,8 @@ pub enum Event {
 pub enum Mark {
     /// It runs.
     Running,
-    /// It has stopped with this number. No desk stops with FFFFFFFFh, whose place `Running` takes in the state.
+    /// It has stopped with this number. No call stops a desk with FFFFFFFFh, which stands for `Running` in the
+    /// state.
     Stopped(u32),
 }
 

@@ -1,6 +1,6 @@
 //! The calls of libmidesk.a: the only unsafe code of this crate.
 //!
-//! The archive asks of its caller that the pointers lead to as many bytes as said, readable and (but for `fresh`'s
+//! The archive asks of its caller that the pointers lead to as many bytes as said, readable and (except for `fresh`'s
 //! memory) writable, that they do not overlap, and that nobody else uses them during the call. References give all of
 //! it. Every content of the bytes and every number is answered.
 

@@ -1,4 +1,6 @@
-//! The MI desk: a small computer whose every function is proved, for programs in Rust.
+//! The MI desk, a small computer whose every call is proved, for programs in Rust.
+//!
+//! This crate is a thin layer of plain Rust over the proved archive; the layer is tested, not proved.
 //!
 //! A [`Desk`] runs machine code for MI in a memory that is lent to each call. Every memory, state and number is
 //! answered: what cannot be used is refused with a [`Refusal`], and then state and memory are as they were.
@@ -20,8 +22,11 @@
 //! # Ok::<(), midesk::Refusal>(())
 //! ```
 //!
+//! [`numbers`] describes what the desk uses in memory: system block, control block and map.
+//!
 //! The crate links `libmidesk.a`, which `embed/build` of the repository makes. "Document 01" is the paper that defines
-//! the desk.
+//! the desk; in the repository `crates/mi/specs` defines it, `crates/mi/specs/Code.antt` the bytes of the commands, of
+//! which `examples/README.md` has examples.
 #![deny(missing_docs)]
 #![deny(unsafe_code)]
 
@@ -54,9 +59,9 @@ pub struct Desk {
 }
 
 impl Desk {
-    /// A fresh desk over this memory: zero registers but R15 = `start`, kernel mode, level 0, no map, nothing pending,
-    /// running. `system` and `control` are the real addresses of the system block (256 bytes) and the control block (80
-    /// bytes). Of the memory only the length matters; `start` is not checked.
+    /// A fresh desk over this memory: zero registers except R15 = `start`, kernel mode, level 0, no map, nothing
+    /// pending, running. `system` and `control` are the real addresses of the system block (256 bytes) and the control
+    /// block (80 bytes). Of the memory only the length matters; `start` is not checked.
     ///
     /// # Errors
     ///
@@ -67,7 +72,8 @@ impl Desk {
         Ok(Desk { state })
     }
 
-    /// One step: an interrupt's entry, where one is due, or one command.
+    /// One step: in user mode the highest pending level above the status level is entered and its pending bit cleared;
+    /// otherwise one command runs.
     ///
     /// # Errors
     ///
@@ -80,14 +86,17 @@ impl Desk {
     ///
     /// # Errors
     ///
-    /// As [`Desk::step`]; a run of 0 steps is refused too.
+    /// As [`Desk::step`]; desk and memory are as they were. A run of 0 steps makes the same checks and, where they
+    /// pass, answers 0.
     pub fn run(&mut self, memory: &mut [u8], n: u64) -> Result<u64, Refusal> {
         let (answer, steps) = ffi::run(memory, &mut self.state, n);
         answers::refused(answer)?;
         Ok(steps)
     }
 
-    /// Requests an interrupt of a level from 1 to 15, of a stopped desk too. It is entered by a later step in user mode.
+    /// Requests an interrupt of a level from 1 to 15: sets its bit in the pending set, on a stopped desk too. It is
+    /// entered by the first step in user mode at which it is the highest pending level and above the status level; that
+    /// clears its bit.
     ///
     /// # Errors
     ///
@@ -113,7 +122,7 @@ impl Desk {
     ///
     /// # Panics
     ///
-    /// Where `i` is above 15.
+    /// If `i` is above 15.
     pub fn register(&self, i: usize) -> u32 {
         assert!(i < 16, "a desk has the registers 0 to 15");
         self.word(4 * i)
@@ -174,39 +183,40 @@ impl Desk {
         self.mark() == Mark::Running
     }
 
-    /// Puts a register.
+    /// Sets a register.
     ///
     /// # Panics
     ///
-    /// Where `i` is above 15.
+    /// If `i` is above 15.
     pub fn set_register(&mut self, i: usize, value: u32) {
         assert!(i < 16, "a desk has the registers 0 to 15");
         self.put(4 * i, value);
     }
 
-    /// Puts the status word.
+    /// Sets the status word.
     pub fn set_status(&mut self, status: u32) {
         self.put(STATUS, status);
     }
 
-    /// Puts the pending set.
+    /// Sets the pending set.
     pub fn set_pending(&mut self, levels: u16) {
         self.state[PENDING..].copy_from_slice(&levels.to_be_bytes());
     }
 
-    /// Puts the map: its real address and its length in entries.
+    /// Sets the map: its real address and its length in entries.
     pub fn set_map(&mut self, base: u32, length: u32) {
         self.put(MAP_BASE, base);
         self.put(MAP_LENGTH, length);
     }
 
-    /// Puts the real addresses of system block and control block.
+    /// Sets the real addresses of system block and control block.
     pub fn set_blocks(&mut self, system: u32, control: u32) {
         self.put(SYSTEM_BLOCK, system);
         self.put(CONTROL_BLOCK, control);
     }
 
-    /// Puts the mark: `Mark::Running` makes a stopped desk go on.
+    /// Sets the mark. `Mark::Running` makes a stopped desk go on at R15; after an alarm that is the same command again.
+    /// `Mark::Stopped(0xFFFF_FFFF)` cannot be told from `Mark::Running` and is that.
     pub fn set_mark(&mut self, mark: Mark) {
         self.put(MARK, mark.word());
     }

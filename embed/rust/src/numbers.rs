@@ -1,16 +1,46 @@
-//! Numbers of document 01: causes of a kernel entry, numbers of a stop, bits of the status word.
+//! Numbers of document 01: causes of a kernel entry, numbers of a stop, bits of the status word, and what the desk uses
+//! in memory.
+//!
+//! # Alarms
+//!
+//! In user mode each alarm is the cause of a kernel entry (or there is stop 16, where the system block's entry is not
+//! valid). In kernel mode 8 and 12 to 15 are the number of a stop; 9 to 11 do not occur.
+//!
+//! # System block
+//!
+//! 256 bytes: for each cause of a kernel entry the R15 ([`system_pc`]) and the status word ([`system_status`]) with
+//! which the kernel goes on. That status must have [`KERNEL`] and no undefined bit; otherwise the desk stops with 16
+//! instead of entering. All words in memory stand highest byte first.
+//!
+//! # Control block
+//!
+//! 80 bytes: R0 to R15 from 0 on, status at 64, argument at 68, map base at 72, map length in entries at 76. A kernel
+//! entry writes the first 72 bytes. It saves as R15 the address of the next command for a system call and an interrupt,
+//! the command's own for an alarm. The argument is the value of a system call; the level of an interrupt; of alarms 8
+//! to 11 the byte's address, of 12 and 13 the command byte, of 14 the operand's place from 1, of 15 zero.
+//!
+//! The command RESUME leads to user mode: it loads all but the argument from the block at its address, which becomes
+//! the control block. A block that [`Refusal::ControlBlock`] or [`Refusal::Map`] would refuse, or a status with
+//! [`KERNEL`] or an undefined bit, is alarm 14.
+//!
+//! # Map
+//!
+//! Used in user mode alone: page p, the addresses from 512 × p to 512 × p + 511, has the word at map base + 4 × p. In
+//! an entry without [`MAP_PRESENT`] the other bits mean nothing. In one with it the six bits between [`MAP_WRITABLE`]
+//! and [`MAP_FRAME`] must be 0, and the frame must lie in memory; otherwise its use is alarm 10.
+//!
+//! [`Refusal::ControlBlock`]: crate::Refusal::ControlBlock
+//! [`Refusal::Map`]: crate::Refusal::Map
 
 /// Cause: a system call.
 pub const SYSTEM_CALL: u32 = 1;
 
 /// Alarm: the page is at or past the map length, or in kernel mode the byte lies past the memory.
-///
-/// An alarm is in user mode the cause of a kernel entry, in kernel mode the number of a stop.
 pub const ADDRESS: u32 = 8;
 /// Alarm: the map's entry is absent.
 pub const ABSENT: u32 = 9;
 /// Alarm: a present entry has a forbidden bit, or its frame lies past the memory.
-pub const ENTRY: u32 = 10;
+pub const MAP_ENTRY: u32 = 10;
 /// Alarm: a write meets an entry that isn't writable.
 pub const READ_ONLY: u32 = 11;
 /// Alarm: the command byte is unknown.
@@ -44,3 +74,29 @@ pub const Z: u32 = 4;
 pub const V: u32 = 2;
 /// Status: flag C.
 pub const C: u32 = 1;
+
+/// System block: where the new R15 for a cause stands.
+pub const fn system_pc(cause: u32) -> usize {
+    8 * cause as usize
+}
+
+/// System block: where the new status word for a cause stands.
+pub const fn system_status(cause: u32) -> usize {
+    8 * cause as usize + 4
+}
+
+/// Control block: where the status word stands. R0 to R15 stand before it.
+pub const CONTROL_STATUS: usize = 64;
+/// Control block: where the argument stands.
+pub const CONTROL_ARGUMENT: usize = 68;
+/// Control block: where the map base stands.
+pub const CONTROL_MAP_BASE: usize = 72;
+/// Control block: where the map length stands.
+pub const CONTROL_MAP_LENGTH: usize = 76;
+
+/// Map entry: present.
+pub const MAP_PRESENT: u32 = 0x8000_0000;
+/// Map entry: writable.
+pub const MAP_WRITABLE: u32 = 0x4000_0000;
+/// Map entry: the frame's number f, the 512 bytes from real address 512 × f.
+pub const MAP_FRAME: u32 = 0x00FF_FFFF;

@@ -2,12 +2,20 @@
 
 use midesk::{numbers, Desk, Event, Mark, Refusal, STATE_BYTES};
 
+fn put(memory: &mut [u8], at: usize, word: u32) {
+    memory[at..at + 4].copy_from_slice(&word.to_be_bytes());
+}
+
+fn word(memory: &[u8], at: usize) -> u32 {
+    u32::from_be_bytes(memory[at..at + 4].try_into().unwrap())
+}
+
 /// System block at 0, control block at 256, code at 512. Every entry of the system block leads to 768 in kernel mode.
 fn memory(code: &[u8]) -> Vec<u8> {
     let mut memory = vec![0; 1024];
     for cause in 0..32 {
-        memory[8 * cause..8 * cause + 4].copy_from_slice(&768u32.to_be_bytes());
-        memory[8 * cause + 4..8 * cause + 8].copy_from_slice(&numbers::KERNEL.to_be_bytes());
+        put(&mut memory, numbers::system_pc(cause), 768);
+        put(&mut memory, numbers::system_status(cause), numbers::KERNEL);
     }
     memory[512..512 + code.len()].copy_from_slice(code);
     memory
@@ -16,7 +24,7 @@ fn memory(code: &[u8]) -> Vec<u8> {
 /// A desk in user mode at address 0, whose page 0 is frame 1.
 fn user(memory: &mut [u8]) -> Desk {
     let mut desk = Desk::fresh(memory, 0, 256, 0).unwrap();
-    memory[336..340].copy_from_slice(&0xC000_0001u32.to_be_bytes());
+    put(memory, 336, numbers::MAP_PRESENT | numbers::MAP_WRITABLE | 1);
     desk.set_status(0);
     desk.set_map(336, 1);
     desk
@@ -123,6 +131,61 @@ fn a_requested_level_is_entered_in_user_mode() {
     assert_eq!(shared[256 + 64..256 + 72], [0, 0, 0, 0x30, 0, 0, 0, 5]);
 }
 
+/// One command in user mode, under a map with a good page, an absent one, a damaged one and a read-only one: cause,
+/// argument and saved R15 of the kernel entry.
+fn entry_of(code: &[u8]) -> (u32, u32, u32) {
+    let mut shared = memory(code);
+    let mut desk = user(&mut shared);
+    put(&mut shared, 340, numbers::MAP_FRAME);
+    put(&mut shared, 344, numbers::MAP_PRESENT | (numbers::MAP_FRAME + 1) | 1);
+    put(&mut shared, 348, numbers::MAP_PRESENT | 1);
+    desk.set_map(336, 4);
+    let Ok(Event::Entered(cause)) = desk.step(&mut shared) else { panic!("no kernel entry") };
+    assert_eq!((desk.register(15), desk.status()), (768, numbers::KERNEL));
+    (cause, word(&shared, 256 + numbers::CONTROL_ARGUMENT), word(&shared, 256 + 60))
+}
+
+#[test]
+fn arguments_are_as_documented() {
+    // MOVE B between R0 and an address.
+    let load = |high, low| entry_of(&[0x10, 0, 0, 0, 0, high, low, 2, 0, 0, 0, 0, 0]);
+    let store = |high, low| entry_of(&[0x10, 2, 0, 0, 0, 0, 0, 0, 0, 0, 0, high, low]);
+    assert_eq!(entry_of(&[0x03, 1, 0, 0, 0, 0, 42]), (numbers::SYSTEM_CALL, 42, 7));
+    assert_eq!(load(8, 5), (numbers::ADDRESS, 0x805, 0));
+    assert_eq!(load(2, 5), (numbers::ABSENT, 0x205, 0));
+    assert_eq!(load(4, 5), (numbers::MAP_ENTRY, 0x405, 0));
+    assert_eq!(store(6, 5), (numbers::READ_ONLY, 0x605, 0));
+    assert_eq!(entry_of(&[0xFF]), (numbers::COMMAND, 0xFF, 0));
+    assert_eq!(entry_of(&[0x05]), (numbers::MODE, 0x05, 0));
+    // Form 9 as the second operand of MOVE B; DIV B I 0,R0.
+    assert_eq!(entry_of(&[0x10, 1, 0, 0, 0, 0, 1, 9, 0, 0, 0, 0, 0]), (numbers::OPERAND, 2, 0));
+    assert_eq!(entry_of(&[0x58, 1, 0, 0, 0, 0, 0, 2, 0, 0, 0, 0, 0]), (numbers::DIVIDE, 0, 0));
+}
+
+#[test]
+fn resume_loads_the_control_block() {
+    // RESUME of the block at 640.
+    let mut memory = memory(&[0x05, 0, 0, 0, 0, 2, 0x80]);
+    for i in 0..16 {
+        put(&mut memory, 640 + 4 * i, 100 + i as u32);
+    }
+    put(&mut memory, 640 + numbers::CONTROL_STATUS, 0x30 | numbers::Z);
+    put(&mut memory, 640 + numbers::CONTROL_MAP_BASE, 336);
+    put(&mut memory, 640 + numbers::CONTROL_MAP_LENGTH, 9);
+    let fresh = Desk::fresh(&memory, 0, 256, 512).unwrap();
+    let mut desk = fresh.clone();
+    assert_eq!(desk.step(&mut memory), Ok(Event::Done));
+    assert_eq!(desk.registers(), std::array::from_fn(|i| 100 + i as u32));
+    assert_eq!((desk.status(), desk.map_base(), desk.map_length()), (0x34, 336, 9));
+    assert_eq!((desk.system_block(), desk.control_block()), (0, 640));
+    // No user status; a map that is not allowed.
+    for (at, value) in [(numbers::CONTROL_STATUS, numbers::KERNEL), (numbers::CONTROL_MAP_LENGTH, 256)] {
+        let mut spoiled = memory.clone();
+        put(&mut spoiled, 640 + at, value);
+        assert_eq!(fresh.clone().step(&mut spoiled), Ok(Event::Stopped(numbers::OPERAND)));
+    }
+}
+
 #[test]
 fn request_refuses_5_and_6() {
     let mut desk = Desk::fresh(&[0; 512], 0, 256, 0).unwrap();
@@ -196,6 +259,9 @@ fn bytes_are_as_documented() {
     other.set_mark(Mark::Running);
     assert_eq!(other.to_bytes()[84..88], [0xFF; 4]);
     assert!(other.is_running());
+    // It has the place of this number.
+    other.set_mark(Mark::Stopped(u32::MAX));
+    assert_eq!(other.mark(), Mark::Running);
 }
 
 #[test]

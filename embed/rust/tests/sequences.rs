@@ -1,5 +1,7 @@
 //! The desk against the model, in one process: the generator's cases and random sequences of calls, valid and damaged.
-//! MIDESK_SEED and MIDESK_COUNT choose other random sequences.
+//! MIDESK_SEED, MIDESK_FIRST and MIDESK_COUNT choose other random sequences: the seed, the first one's index, how many.
+//!
+//! A sequence that differs is named by the command that writes it alone, to be used in `model`.
 
 use midesk::{Desk, Event};
 use model::sequences::{random, Act, Sequence};
@@ -55,7 +57,7 @@ fn replay(sequence: &Sequence) -> Result<(), String> {
             Act::Fresh { system, control, start } => {
                 let made = Desk::fresh(lent.memory(), *system, *control, *start);
                 let answer = refusal_number(&made);
-                // Refused there is no desk; the model's is all zero, stopped with the number.
+                // When refused there is no desk; the model's is all zero, stopped with the number.
                 desk = made.unwrap_or_else(|_| Desk::from_bytes(left.as_ref().unwrap().state));
                 answer
             }
@@ -107,13 +109,15 @@ fn number(name: &str, otherwise: u64) -> u64 {
     std::env::var(name).map_or(otherwise, |text| text.parse().expect("a number"))
 }
 
-/// Replays them all and prints how many differ.
-fn replay_all(what: &str, sequences: impl Iterator<Item = Sequence>) {
+/// Replays them all and prints how many differ. The model's program `sequences` with the arguments `list` writes them
+/// from number `first` on.
+fn replay_all(what: &str, list: &str, first: usize, sequences: impl Iterator<Item = Sequence>) {
     let (mut count, mut calls, mut differ) = (0, 0, 0);
     for sequence in sequences {
         if let Err(difference) = replay(&sequence) {
             if differ < 5 {
-                eprintln!("number {count}: {difference}");
+                let number = first + count;
+                eprintln!("cargo run --release --bin sequences -- {list} only {number}: {difference}");
             }
             differ += 1;
         }
@@ -126,12 +130,15 @@ fn replay_all(what: &str, sequences: impl Iterator<Item = Sequence>) {
 
 #[test]
 fn cases_of_the_generator() {
-    replay_all("cases of the generator", random::stored().into_iter());
+    replay_all("cases of the generator", "1 0", 0, random::stored().into_iter());
 }
 
 #[test]
 fn random_sequences() {
-    let seed = number("MIDESK_SEED", 2);
-    let count = number("MIDESK_COUNT", 6000) as u32;
-    replay_all("random sequences", (0..count).map(|index| random::sequence(seed, index)));
+    let seed = number("MIDESK_SEED", 1);
+    let from = number("MIDESK_FIRST", 6000) as u32;
+    let to = from + number("MIDESK_COUNT", 6000) as u32;
+    let first = random::stored().len() + from as usize;
+    let sequences = (from..to).map(|index| random::sequence(seed, index));
+    replay_all("random sequences", &format!("{seed} {to}"), first, sequences);
 }

@@ -1,7 +1,7 @@
 //! Writes sequences of calls with the model's answers to standard output:
 //! `sequences SEED COUNT`. First come the generator's own cases, then COUNT
 //! random sequences of that seed; with `only I` as third and fourth argument,
-//! number I of the whole list (from 0) alone.
+//! number I of that list (from 0) alone.
 //!
 //! The form of what it writes is described at the top of
 //! `src/sequences/stream.rs`; the same arguments write the same bytes.
@@ -11,18 +11,19 @@ use std::io::{BufWriter, Write};
 
 fn main() {
     let arguments: Vec<String> = std::env::args().skip(1).collect();
-    let number = |i: usize| arguments.get(i).and_then(|word| word.parse::<u64>().ok());
-    let (Some(seed), Some(count)) = (number(0), number(1).and_then(|count| u32::try_from(count).ok())) else {
-        eprintln!("usage: sequences SEED COUNT [only I]");
-        std::process::exit(2);
-    };
+    let Some((seed, count, only)) = read(&arguments) else { refuse("") };
     let stored = random::stored();
     let front = stored.len() as u32;
-    let only = number(3).map(|i| i as u32);
+    let Some(all) = front.checked_add(count) else { refuse("COUNT is too great") };
+    let numbers = match only {
+        Some(i) if i >= all => refuse(&format!("the list has the numbers 0 to {}", all - 1)),
+        Some(i) => i..i + 1,
+        None => 0..all,
+    };
     let mut out = BufWriter::new(std::io::stdout().lock());
     let mut write = |bytes: &[u8]| said(out.write_all(bytes));
-    write(&stream::head(if only.is_some() { 1 } else { front + count }));
-    for i in only.map_or(0..front + count, |i| i..i + 1) {
+    write(&stream::head(numbers.len() as u32));
+    for i in numbers {
         match stored.get(i as usize) {
             Some(sequence) => write(&stream::body(sequence)),
             None => write(&stream::body(&random::sequence(seed, i - front))),
@@ -30,6 +31,25 @@ fn main() {
     }
     write(stream::END);
     said(out.flush());
+}
+
+/// Seed, count, and the number after `only`.
+fn read(arguments: &[String]) -> Option<(u64, u32, Option<u32>)> {
+    let only = match arguments.get(2..)? {
+        [] => None,
+        [word, number] if word == "only" => Some(number.parse().ok()?),
+        _ => return None,
+    };
+    Some((arguments[0].parse().ok()?, arguments[1].parse().ok()?, only))
+}
+
+/// Ends the program with its usage.
+fn refuse(why: &str) -> ! {
+    if !why.is_empty() {
+        eprintln!("sequences: {why}");
+    }
+    eprintln!("usage: sequences SEED COUNT [only I]");
+    std::process::exit(2);
 }
 
 /// Ends the program where it can't write; silently where nobody reads on.

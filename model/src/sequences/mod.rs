@@ -70,13 +70,6 @@ pub enum Act {
     Length(u32),
 }
 
-impl Act {
-    /// Whether the desk is called.
-    pub fn calls(&self) -> bool {
-        matches!(self, Act::Fresh { .. } | Act::Step | Act::Run(_) | Act::Request(_))
-    }
-}
-
 /// Bytes of the memory that a call changed.
 #[derive(Clone, PartialEq, Eq, Debug)]
 pub struct Change {
@@ -105,8 +98,9 @@ pub struct Sequence {
 }
 
 impl Sequence {
+    /// How many of the acts are calls.
     pub fn calls(&self) -> usize {
-        self.acts.iter().filter(|(act, _)| act.calls()).count()
+        self.acts.iter().filter(|(_, left)| left.is_some()).count()
     }
 }
 

@@ -84,7 +84,7 @@ fn damage(rng: &mut Rng, good: &State, length: u32) -> StateBytes {
         }
         2 => {
             for _ in 0..1 + rng.below(6) {
-                bytes[rng.below(90) as usize] = rng.word() as u8;
+                bytes[rng.below(STATE_BYTES as u32) as usize] = rng.word() as u8;
             }
         }
         _ => bytes = std::array::from_fn(|_| rng.word() as u8),
@@ -153,6 +153,13 @@ fn code(rng: &mut Rng, bytes: &[u8], length: u32) -> Vec<u8> {
     code
 }
 
+/// Lays bytes from an address on, as far as the memory goes.
+fn lay_bytes(memory: &mut [u8], at: u32, bytes: &[u8]) {
+    for (place, byte) in memory.iter_mut().skip(at as usize).zip(bytes) {
+        *place = *byte;
+    }
+}
+
 /// The caller writes some bytes, often commands where the desk is about to run.
 fn scribble(session: &mut Session, rng: &mut Rng, known: &[u8]) {
     let length = session.memory.len() as u32;
@@ -166,11 +173,7 @@ fn scribble(session: &mut Session, rng: &mut Rng, known: &[u8]) {
         let bytes = (0..1 + rng.below(40)).map(|_| rng.word() as u8).collect();
         (rng.below(length), bytes)
     };
-    for (i, byte) in bytes.iter().enumerate() {
-        if let Some(place) = memory.get_mut(at as usize + i) {
-            *place = *byte;
-        }
-    }
+    lay_bytes(&mut memory, at, &bytes);
     session.put_memory(&memory);
 }
 
@@ -393,12 +396,7 @@ fn large(rng: &mut Rng) -> Sequence {
             });
         }
         let mut memory = session.memory.clone();
-        let at = session.state.registers[PC] as usize;
-        for (i, byte) in code(rng, &known, length).iter().enumerate() {
-            if let Some(place) = memory.get_mut(at + i) {
-                *place = *byte;
-            }
-        }
+        lay_bytes(&mut memory, session.state.registers[PC], &code(rng, &known, length));
         if rng.chance(30) {
             // User mode under a map of the last frames, one of them past the memory.
             let base = length - 1024;

@@ -10,13 +10,12 @@ pub struct Session {
     pub memory: Vec<u8>,
     pub state: State,
     sequence: Sequence,
-    calls: usize,
 }
 
 impl Session {
     pub fn new(family: &'static str, memory: Vec<u8>, state: StateBytes) -> Session {
         let sequence = Sequence { family, memory: memory.clone(), state, acts: Vec::new() };
-        Session { memory, state: unpacked(&state), sequence, calls: 0 }
+        Session { memory, state: unpacked(&state), sequence }
     }
 
     pub fn finish(self) -> Sequence {
@@ -24,7 +23,7 @@ impl Session {
     }
 
     pub fn calls(&self) -> usize {
-        self.calls
+        self.sequence.calls()
     }
 
     /// Whether a step would be taken.
@@ -62,7 +61,6 @@ impl Session {
         };
         let left = Left { answer, steps, state: packed(&state), changes: changes(&before, &self.memory) };
         self.state = unpacked(&left.state);
-        self.calls += 1;
         self.sequence.acts.push((act, Some(left)));
     }
 
@@ -79,7 +77,7 @@ impl Session {
         self.sequence.acts.push((Act::State(bytes), None));
     }
 
-    /// Puts the state with something changed.
+    /// Sets the state, with something changed.
     pub fn edit(&mut self, change: impl FnOnce(&mut State)) {
         let mut state = self.state;
         change(&mut state);
