@@ -35,7 +35,7 @@
  * The inline functions at the end only read and write bytes; they check nothing, and each says what it needs.
  *
  * A number ending in h is hexadecimal. "Document 01" is the paper that defines the desk; in the repository
- * crates/mi/specs defines it, crates/mi/specs/Code.antt the bytes of the commands, of which examples/README.md has
+ * crates/machine/specs defines it, crates/machine/specs/Code.antt the bytes of the commands, of which examples/README.md has
  * examples.
  */
 #ifndef MIDESK_H

@@ -8,13 +8,13 @@ use native.Mathlib.Omega.{arith}
 use borrow.Author.Tests.{lt-ltb, le-ltb, le-leb, lt-leb, eq-eqb, ne-eqb}
 use lib.Dec.{leb, eqb}
 use lib.ListN.{length}
-use Rattle.mi.specs.declared.RealAddress.{RealAddress}
-use Rattle.mi.specs.declared.VirtualAddress.{VirtualAddress}
-use Rattle.mi.specs.declared.Access.{Access}
-use Rattle.mi.specs.declared.Access.the-variants.{Fetch, Read, Write}
-use Rattle.mi.specs.Words.{Memory, wordAt}
-use Rattle.mi.specs.Alarms.{got, alarm}
-use Rattle.mi.specs.Map.{pageOf, mapEntry, present, writable, forbiddenBits, frameOf, undamaged, foundAt, inFrame, allows, inNumberOrder, mapped}
+use Rattle.machine.specs.declared.RealAddress.{RealAddress}
+use Rattle.machine.specs.declared.VirtualAddress.{VirtualAddress}
+use Rattle.machine.specs.declared.Access.{Access}
+use Rattle.machine.specs.declared.Access.the-variants.{Fetch, Read, Write}
+use Rattle.machine.specs.Words.{Memory, wordAt}
+use Rattle.machine.specs.Alarms.{got, alarm}
+use Rattle.machine.specs.Map.{pageOf, mapEntry, present, writable, forbiddenBits, frameOf, undamaged, foundAt, inFrame, allows, inNumberOrder, mapped}
 
 module _ (base : RealAddress) (entries : ℕ) (m : Memory) (x : VirtualAddress) (w : Access) where
   pub mapped-8 : entries ≤ pageOf x → alarm 8 (x .0) ≡ mapped base entries m x w

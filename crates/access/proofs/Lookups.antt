@@ -4,14 +4,14 @@ use mathlib.Core.Path.{_≡_, sym, ap, _∙_}
 use mathlib.Core.Bool.{Bool, true, false}
 use lib.Dec.{ltb}
 use lib.ListN.{length}
-use Rattle.mi.specs.declared.RealAddress.{RealAddress}
-use Rattle.mi.specs.declared.VirtualAddress.{VirtualAddress}
-use Rattle.mi.specs.declared.Access.{Access}
-use Rattle.mi.specs.Words.{pick, Memory}
-use Rattle.mi.specs.State.{userMode}
-use Rattle.mi.specs.Alarms.{got, alarm}
-use Rattle.mi.specs.Map.{pageOf, mapEntry, present, frameOf, undamaged, Found, foundAt, inFrame, allows, inNumberOrder, mapped, realOf, unmapped, viewBy}
-use Rattle.mi.proofs.Pages.{Alarms, found-inside, Finds}
+use Rattle.machine.specs.declared.RealAddress.{RealAddress}
+use Rattle.machine.specs.declared.VirtualAddress.{VirtualAddress}
+use Rattle.machine.specs.declared.Access.{Access}
+use Rattle.machine.specs.Words.{pick, Memory}
+use Rattle.machine.specs.State.{userMode}
+use Rattle.machine.specs.Alarms.{got, alarm}
+use Rattle.machine.specs.Map.{pageOf, mapEntry, present, frameOf, undamaged, Found, foundAt, inFrame, allows, inNumberOrder, mapped, realOf, unmapped, viewBy}
+use Rattle.machine.proofs.Pages.{Alarms, found-inside, Finds}
 use Rattle.access.specs.Answers.{Fits, lookupAs}
 use Rattle.access.specs.declared.Lookup.{Lookup}
 use Rattle.access.specs.declared.Lookup.the-variants.{At, Alarm}

@@ -3,17 +3,17 @@ use Prim.Native.Nat.{ℕ, zero, suc, _+_, _-_, _*_, _/_, _%_, _≤_, _<_}
 use mathlib.Core.Path.{_≡_, refl, sym, ap, _∙_}
 use native.Mathlib.Nat.{add-zero}
 use native.Mathlib.Omega.{arith}
-use Rattle.mi.specs.declared.RealAddress.{RealAddress}
-use Rattle.mi.specs.declared.VirtualAddress.{VirtualAddress}
-use Rattle.mi.specs.declared.Access.{Access}
-use Rattle.mi.specs.declared.Access.the-variants.{Fetch}
-use Rattle.mi.specs.declared.Size.{Size}
-use Rattle.mi.specs.declared.Size.the-variants.{B, H, W}
-use Rattle.mi.specs.Words.{Memory, byteAt, lengthOf, wordAt, wrap}
-use Rattle.mi.specs.Alarms.{got, alarm}
-use Rattle.mi.specs.Map.{viewBy, readFrom, readBytes}
-use Rattle.mi.specs.Operands.{fieldsAt}
-use Rattle.mi.proofs.Pages.{Alarms, read-alarm, Finds, found-page}
+use Rattle.machine.specs.declared.RealAddress.{RealAddress}
+use Rattle.machine.specs.declared.VirtualAddress.{VirtualAddress}
+use Rattle.machine.specs.declared.Access.{Access}
+use Rattle.machine.specs.declared.Access.the-variants.{Fetch}
+use Rattle.machine.specs.declared.Size.{Size}
+use Rattle.machine.specs.declared.Size.the-variants.{B, H, W}
+use Rattle.machine.specs.Words.{Memory, byteAt, lengthOf, wordAt, wrap}
+use Rattle.machine.specs.Alarms.{got, alarm}
+use Rattle.machine.specs.Map.{viewBy, readFrom, readBytes}
+use Rattle.machine.specs.Operands.{fieldsAt}
+use Rattle.machine.proofs.Pages.{Alarms, read-alarm, Finds, found-page}
 use Rattle.access.specs.Answers.{valueAt}
 
 -- ---- Values of each size at a place

@@ -4,11 +4,11 @@ use mathlib.Core.Path.{_≡_}
 use native.Mathlib.Numerals.{add-one}
 use native.Mathlib.Nat.{add-zero, sub-zero, pow-suc}
 use native.Mathlib.Omega.{arith}
-use Rattle.mi.specs.declared.Access.{Access}
-use Rattle.mi.specs.Words.{span, wrap}
-use Rattle.mi.specs.Alarms.{got, alarm}
-use Rattle.mi.specs.Map.{Found, View, readFrom}
-use Rattle.mi.proofs.Widths.{span-wider}
+use Rattle.machine.specs.declared.Access.{Access}
+use Rattle.machine.specs.Words.{span, wrap}
+use Rattle.machine.specs.Alarms.{got, alarm}
+use Rattle.machine.specs.Map.{Found, View, readFrom}
+use Rattle.machine.proofs.Widths.{span-wider}
 
 -- ---- Three bytes and one more make a word
 

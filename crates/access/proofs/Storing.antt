@@ -8,10 +8,10 @@ use native.Mathlib.Numerals.{add-one}
 use native.Mathlib.Omega.{arith}
 use lib.ListN.{length, getD, set, take, drop}
 use lib.Seq.{drop-cons, getD-set-same, getD-set-other}
-use Rattle.mi.specs.declared.Access.the-variants.{Write}
-use Rattle.mi.specs.Words.{Memory, bytesOf, wrap}
-use Rattle.mi.specs.Alarms.{got, alarm}
-use Rattle.mi.specs.Map.{foundAt, View, RealWrites, writesFrom, realWritesFrom, located, commit}
+use Rattle.machine.specs.declared.Access.the-variants.{Write}
+use Rattle.machine.specs.Words.{Memory, bytesOf, wrap}
+use Rattle.machine.specs.Alarms.{got, alarm}
+use Rattle.machine.specs.Map.{foundAt, View, RealWrites, writesFrom, realWritesFrom, located, commit}
 
 -- ---- The bytes of each size
 

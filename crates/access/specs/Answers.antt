@@ -1,14 +1,14 @@
--- What the answers of this crate's functions say, in the terms of `mi`.
+-- What the answers of this crate's functions say, in the terms of `machine`.
 use Prim.Native.Nat.{ℕ, zero, suc, _+_, _*_, _/_, _%_, _≤_, _<_}
 use mathlib.Core.Path.{_≡_}
 use lib.ListN.{length}
-use Rattle.mi.specs.declared.RealAddress.{RealAddress}
-use Rattle.mi.specs.declared.VirtualAddress.{VirtualAddress}
-use Rattle.mi.specs.declared.Access.the-variants.{Fetch}
-use Rattle.mi.specs.Words.{Memory, byteAt, wordAt, span}
-use Rattle.mi.specs.Alarms.{OrAlarm, got, alarm}
-use Rattle.mi.specs.Map.{Found, foundAt, View, RealWrites, commit}
-use Rattle.mi.specs.Operands.{Fields}
+use Rattle.machine.specs.declared.RealAddress.{RealAddress}
+use Rattle.machine.specs.declared.VirtualAddress.{VirtualAddress}
+use Rattle.machine.specs.declared.Access.the-variants.{Fetch}
+use Rattle.machine.specs.Words.{Memory, byteAt, wordAt, span}
+use Rattle.machine.specs.Alarms.{OrAlarm, got, alarm}
+use Rattle.machine.specs.Map.{Found, foundAt, View, RealWrites, commit}
+use Rattle.machine.specs.Operands.{Fields}
 use Rattle.access.specs.declared.Lookup.{Lookup}
 use Rattle.access.specs.declared.Lookup.the-variants as lookup
 use Rattle.access.specs.declared.Got.{Got}

@@ -1,17 +1,17 @@
-// Memory as a command sees it: the map lookup, reads, fetches and stores. Every promise is an equation with the view of `mi`.
+// Memory as a command sees it: the map lookup, reads, fetches and stores. Every promise is an equation with the view of `machine`.
 // Where the bytes of a value lie in one page, one lookup answers for all of them; the bytewise way stands beside it.
 ghost use mathlib.Core.Path.{_≡_};
 ghost use Prim.Native.Nat.{_+_, _≤_, _<_};
 ghost use lib.ListN.{length, take};
-ghost use Rattle.mi.specs.Words.{lengthOf, wordAt, bytesOf};
-ghost use Rattle.mi.specs.Map.{inFrame, mapped, realOf, viewBy, readBytes, located, writesFrom, realWritesFrom, commit};
-ghost use Rattle.mi.specs.Operands.{fieldsAt};
+ghost use Rattle.machine.specs.Words.{lengthOf, wordAt, bytesOf};
+ghost use Rattle.machine.specs.Map.{inFrame, mapped, realOf, viewBy, readBytes, located, writesFrom, realWritesFrom, commit};
+ghost use Rattle.machine.specs.Operands.{fieldsAt};
 ghost use Rattle.access.specs.Answers.{Fits, lookupAs, gotAs, SpanOrAlarm, commandByteAs, ByteOrAlarm, FetchedFrom, PlaceOrAlarm, operandBytesAs, operandBytesAt, PairOrAlarm, valueAt, storedAs, storeEndOf};
-use mi::Access;
-use mi::FrameNumber;
-use mi::RealAddress;
-use mi::Size;
-use mi::VirtualAddress;
+use machine::Access;
+use machine::FrameNumber;
+use machine::RealAddress;
+use machine::Size;
+use machine::VirtualAddress;
 
 // Where a byte lies, or the number of an alarm and the byte's address.
 pub enum Lookup {

@@ -1,14 +1,14 @@
--- What a command byte asks for, once its operands are taken: the operation stage of `mi`'s commands, as one function of the byte, the flags and the two
+-- What a command byte asks for, once its operands are taken: the operation stage of `machine`'s commands, as one function of the byte, the flags and the two
 -- numbers.
 use Prim.Native.Nat.{ℕ}
 use mathlib.Core.Option.{Option, none, some}
-use Rattle.mi.specs.declared.Size.{Size}
-use Rattle.mi.specs.declared.Result.{Result}
-use Rattle.mi.specs.Words.{lengthOf}
-use Rattle.mi.specs.Alarms.{OrAlarm, got, alarm}
-use Rattle.mi.specs.Code.{Common, result, CMP, PUSHR, POPR, jump, CALL, RET, systemCall, HALT, RESUME, Command, common, userOnly, kernelOnly, Known, known}
-use Rattle.mi.specs.Integers.{natural, operate, compared}
-use Rattle.mi.specs.Commands.{jumps}
+use Rattle.machine.specs.declared.Size.{Size}
+use Rattle.machine.specs.declared.Result.{Result}
+use Rattle.machine.specs.Words.{lengthOf}
+use Rattle.machine.specs.Alarms.{OrAlarm, got, alarm}
+use Rattle.machine.specs.Code.{Common, result, CMP, PUSHR, POPR, jump, CALL, RET, systemCall, HALT, RESUME, Command, common, userOnly, kernelOnly, Known, known}
+use Rattle.machine.specs.Integers.{natural, operate, compared}
+use Rattle.machine.specs.Commands.{jumps}
 use Rattle.codes.specs.declared.Asked.{Asked}
 use Rattle.codes.specs.declared.Asked.the-variants as act
 

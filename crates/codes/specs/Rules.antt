@@ -4,13 +4,13 @@ use mathlib.Core.Bool.{Bool, _||_}
 use mathlib.Core.List.{List, [], _∷_}
 use mathlib.Core.Option.{Option, none, some}
 use lib.Dec.{eqb}
-use Rattle.mi.specs.declared.Size.{Size}
-use Rattle.mi.specs.declared.Size.the-variants.{B, H, W}
-use Rattle.mi.specs.declared.Role.{Role}
-use Rattle.mi.specs.declared.Role.the-variants.{Value, Address, Destination, Update}
-use Rattle.mi.specs.Words.{pick}
-use Rattle.mi.specs.State.{userMode}
-use Rattle.mi.specs.Code.{Rule, Known, known}
+use Rattle.machine.specs.declared.Size.{Size}
+use Rattle.machine.specs.declared.Size.the-variants.{B, H, W}
+use Rattle.machine.specs.declared.Role.{Role}
+use Rattle.machine.specs.declared.Role.the-variants.{Value, Address, Destination, Update}
+use Rattle.machine.specs.Words.{pick}
+use Rattle.machine.specs.State.{userMode}
+use Rattle.machine.specs.Code.{Rule, Known, known}
 
 -- four bits an operand, the first operand lowest: its size in the low two, 1 for B, 2 for H, 3 for W, and its role in the high two; 0 ends the list.
 

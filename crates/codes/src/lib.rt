@@ -1,15 +1,15 @@
 // The command bytes: the operands of each, from a constant table, and its operation, by a match.
 ghost use mathlib.Core.Path.{_≡_};
 ghost use Prim.Native.Nat.{_<_};
-ghost use Rattle.mi.specs.Words.{lengthOf, sizeAt};
-ghost use Rattle.mi.specs.State.{flagN, flagZ, flagV, flagC};
-ghost use Rattle.mi.specs.Code.{known, DIV};
-ghost use Rattle.mi.specs.Integers.{natural, operate};
+ghost use Rattle.machine.specs.Words.{lengthOf, sizeAt};
+ghost use Rattle.machine.specs.State.{flagN, flagZ, flagV, flagC};
+ghost use Rattle.machine.specs.Code.{known, DIV};
+ghost use Rattle.machine.specs.Integers.{natural, operate};
 ghost use Rattle.codes.specs.Rules.{sizeIn, roleIn, rulesIn, knownRules, tableOf, forbiddenOf};
 ghost use Rattle.codes.specs.Asked.{given, askedOf};
-use mi::Result;
-use mi::Role;
-use mi::Size;
+use machine::Result;
+use machine::Role;
+use machine::Size;
 
 // What a command does with its operands' numbers.
 pub enum Asked {

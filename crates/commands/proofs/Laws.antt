@@ -1,23 +1,23 @@
--- What the ends of the code are in the terms of `mi`: addresses that wrap, a status with its own flags, a store, and the order inside a command.
+-- What the ends of the code are in the terms of `machine`: addresses that wrap, a status with its own flags, a store, and the order inside a command.
 use Prim.Native.Nat.{ℕ, zero, suc, _+_, _*_, _<_}
 use mathlib.Core.Path.{_≡_, refl, sym, _∙_}
 use mathlib.Core.Bool.{Bool, true, false, false≢true}
 use mathlib.Core.List.{List}
 use mathlib.Core.Option.{Option, none, some}
 use native.Mathlib.Omega.{arith}
-use Rattle.mi.specs.declared.RealAddress.{RealAddress}
-use Rattle.mi.specs.declared.Access.{Access}
-use Rattle.mi.specs.declared.Access.the-variants.{Fetch}
-use Rattle.mi.specs.declared.Size.{Size}
-use Rattle.mi.specs.declared.Result.{Result}
-use Rattle.mi.specs.Words.{pick, Memory, lengthOf, wrap}
-use Rattle.mi.specs.State.{Registers, reg, userMode, flagsOf, withFlags}
-use Rattle.mi.specs.Alarms.{OrAlarm, got, alarm, _>>=_}
-use Rattle.mi.specs.Map.{Found, View, viewBy, RealWrites, readFrom, readBytes, located, commit}
-use Rattle.mi.specs.Code.{Common, result, CMP, PUSHR, POPR, jump, CALL, RET, systemCall, HALT, RESUME, Command, common, userOnly, kernelOnly, Rule, Known, known}
-use Rattle.mi.specs.Integers.{natural, operate}
-use Rattle.mi.specs.Operands.{virtual, past, Operands, operandsFrom, operandsOf}
-use Rattle.mi.specs.Commands.{Done, stored, commonDone, done, knownOr12, allowedInUserMode, allowedInKernelMode, actOf, commandBy, userEffect, userCommand, kernelEffect, kernelCommand}
+use Rattle.machine.specs.declared.RealAddress.{RealAddress}
+use Rattle.machine.specs.declared.Access.{Access}
+use Rattle.machine.specs.declared.Access.the-variants.{Fetch}
+use Rattle.machine.specs.declared.Size.{Size}
+use Rattle.machine.specs.declared.Result.{Result}
+use Rattle.machine.specs.Words.{pick, Memory, lengthOf, wrap}
+use Rattle.machine.specs.State.{Registers, reg, userMode, flagsOf, withFlags}
+use Rattle.machine.specs.Alarms.{OrAlarm, got, alarm, _>>=_}
+use Rattle.machine.specs.Map.{Found, View, viewBy, RealWrites, readFrom, readBytes, located, commit}
+use Rattle.machine.specs.Code.{Common, result, CMP, PUSHR, POPR, jump, CALL, RET, systemCall, HALT, RESUME, Command, common, userOnly, kernelOnly, Rule, Known, known}
+use Rattle.machine.specs.Integers.{natural, operate}
+use Rattle.machine.specs.Operands.{virtual, past, Operands, operandsFrom, operandsOf}
+use Rattle.machine.specs.Commands.{Done, stored, commonDone, done, knownOr12, allowedInUserMode, allowedInKernelMode, actOf, commandBy, userEffect, userCommand, kernelEffect, kernelCommand}
 use Rattle.access.specs.declared.Stored.{Stored}
 use Rattle.access.specs.Answers.{storedAs, storeEndOf}
 use Rattle.codes.specs.Rules.{knownRules, forbiddenOf}

@@ -5,9 +5,9 @@ use mathlib.Core.Bool.{Bool, true, false, not, _||_}
 use mathlib.Core.Option.{Option, none, some}
 use native.Mathlib.Omega.{arith}
 use lib.Dec.{eqb}
-use Rattle.mi.specs.Words.{pick}
+use Rattle.machine.specs.Words.{pick}
 use Rattle.codes.proofs.Bytes.{values, same}
-use Rattle.mi.specs.Code.{Command, common, userOnly, kernelOnly, Known, known, knownIn, table}
+use Rattle.machine.specs.Code.{Command, common, userOnly, kernelOnly, Known, known, knownIn, table}
 
 -- in user mode or not, the command alarms with 13
 abbrev pub forbids : Bool → Command → Bool

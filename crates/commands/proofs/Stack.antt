@@ -8,13 +8,13 @@ use native.Mathlib.Omega.{arith}
 use borrow.Author.Tests.{eq-eqb, ne-eqb}
 use lib.ListN.{length, getD, set, take, length-append, List·getD-append}
 use lib.Seq.{take-all, getD-append-add}
-use Rattle.mi.specs.declared.Access.the-variants.{Read}
-use Rattle.mi.specs.Words.{bytesOf, bytesOfWords, wrap, raised, lowered}
-use Rattle.mi.specs.State.{Registers, reg, registersFrom}
-use Rattle.mi.specs.Alarms.{got, alarm}
-use Rattle.mi.specs.Map.{View, VirtualWrites, readBytes, writesFrom}
-use Rattle.mi.specs.Commands.{pushed, popped}
-use Rattle.mi.proofs.Blocks.{words-append, one-word, words-length, registers-length}
+use Rattle.machine.specs.declared.Access.the-variants.{Read}
+use Rattle.machine.specs.Words.{bytesOf, bytesOfWords, wrap, raised, lowered}
+use Rattle.machine.specs.State.{Registers, reg, registersFrom}
+use Rattle.machine.specs.Alarms.{got, alarm}
+use Rattle.machine.specs.Map.{View, VirtualWrites, readBytes, writesFrom}
+use Rattle.machine.specs.Commands.{pushed, popped}
+use Rattle.machine.proofs.Blocks.{words-append, one-word, words-length, registers-length}
 use Rattle.commands.proofs.Laws.{read-virtual}
 
 -- ---- POPR

@@ -1,17 +1,17 @@
--- How a command ends, with the registers and the memory that it leaves, in the terms of `mi`.
+-- How a command ends, with the registers and the memory that it leaves, in the terms of `machine`.
 use Prim.Native.Nat.{ℕ}
 use mathlib.Core.Path.{_≡_}
 use mathlib.Core.List.{[]}
 use lib.ListN.{set}
-use Rattle.mi.specs.declared.VirtualAddress.{VirtualAddress}
-use Rattle.mi.specs.declared.RealAddress.{RealAddress}
-use Rattle.mi.specs.declared.Target.{Target}
-use Rattle.mi.specs.Words.{pick, Memory, lengthOf}
-use Rattle.mi.specs.State.{Registers, reg, userMode, flagsOf, withFlags}
-use Rattle.mi.specs.Alarms.{OrAlarm, got, alarm}
-use Rattle.mi.specs.Map.{View, viewBy, RealWrites, located, commit}
-use Rattle.mi.specs.Commands.{Done, stored, pushed, poppedDone, called, returnedDone, Act, done, modal, SystemCall, userCommand, KernelEffect, kernelCommand}
-use Rattle.mi.specs.Commands.{halts, resumes}
+use Rattle.machine.specs.declared.VirtualAddress.{VirtualAddress}
+use Rattle.machine.specs.declared.RealAddress.{RealAddress}
+use Rattle.machine.specs.declared.Target.{Target}
+use Rattle.machine.specs.Words.{pick, Memory, lengthOf}
+use Rattle.machine.specs.State.{Registers, reg, userMode, flagsOf, withFlags}
+use Rattle.machine.specs.Alarms.{OrAlarm, got, alarm}
+use Rattle.machine.specs.Map.{View, viewBy, RealWrites, located, commit}
+use Rattle.machine.specs.Commands.{Done, stored, pushed, poppedDone, called, returnedDone, Act, done, modal, SystemCall, userCommand, KernelEffect, kernelCommand}
+use Rattle.machine.specs.Commands.{halts, resumes}
 use Rattle.access.specs.declared.Stored.{Stored}
 use Rattle.access.specs.Answers.{StoreEnd, wrote, failed, storedAs}
 use Rattle.codes.specs.declared.Asked.{Asked}

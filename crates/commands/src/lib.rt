@@ -3,11 +3,11 @@
 ghost use mathlib.Core.Path.{_≡_};
 ghost use mathlib.Core.List.{[], _∷_, _++_};
 ghost use Prim.Native.Nat.{_<_};
-ghost use Rattle.mi.specs.Words.{lengthOf, bytesOf, bytesOfWords};
-ghost use Rattle.mi.specs.State.{reg, flagsOf, withFlags, registersFrom};
-ghost use Rattle.mi.specs.Alarms.{got};
-ghost use Rattle.mi.specs.Map.{viewBy, located, writesFrom};
-ghost use Rattle.mi.specs.Commands.{keptRest, stored, pushed, poppedDone, called, returnedDone};
+ghost use Rattle.machine.specs.Words.{lengthOf, bytesOf, bytesOfWords};
+ghost use Rattle.machine.specs.State.{reg, flagsOf, withFlags, registersFrom};
+ghost use Rattle.machine.specs.Alarms.{got};
+ghost use Rattle.machine.specs.Map.{viewBy, located, writesFrom};
+ghost use Rattle.machine.specs.Commands.{keptRest, stored, pushed, poppedDone, called, returnedDone};
 ghost use Rattle.access.specs.Answers.{Fits, storedAs, storeEndOf};
 ghost use Rattle.codes.specs.Rules.{tableOf};
 ghost use Rattle.operands.specs.Answers.{SmallTarget};
@@ -16,11 +16,11 @@ use access::CommandByte;
 use access::Got;
 use access::Stored;
 use codes::Asked;
-use mi::RealAddress;
-use mi::Result;
-use mi::Size;
-use mi::Target;
-use mi::VirtualAddress;
+use machine::RealAddress;
+use machine::Result;
+use machine::Size;
+use machine::Target;
+use machine::VirtualAddress;
 use operands::Operands;
 
 // How a command ended: with a new status; a system call with its argument; stopped; a control block's address to resume from; an alarm and its argument.

@@ -12,11 +12,11 @@ use crate::state::same_words;
 use crate::state::saved_at;
 use crate::state::unsaved;
 use crate::state::words_of;
-use mi::Answer;
-use mi::Desk;
-use mi::RealAddress;
-use mi::StepAnswer;
-use mi::VirtualAddress;
+use machine::Answer;
+use machine::Desk;
+use machine::RealAddress;
+use machine::StepAnswer;
+use machine::VirtualAddress;
 
 // A call's difference, the model's state after it, and the position after its fields.
 struct Checked {

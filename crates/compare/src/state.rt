@@ -3,9 +3,9 @@
 ghost use Prim.Native.Nat.{_≤_};
 use crate::fields::part;
 use crate::fields::word_at;
-use mi::Desk;
-use mi::Mark;
-use mi::RealAddress;
+use machine::Desk;
+use machine::Mark;
+use machine::RealAddress;
 
 fn registers_of(w: [u32; 24]) -> [u32; 16] {
     [

@@ -4,17 +4,17 @@ use mathlib.Core.Path.{_≡_, refl, sym, ap, _∙_}
 use mathlib.Core.Bool.{Bool, true, false, _&&_}
 use native.Mathlib.Omega.{arith}
 use lib.ListN.{length}
-use Rattle.mi.specs.declared.RealAddress.{RealAddress}
-use Rattle.mi.specs.declared.Desk.{Desk}
-use Rattle.mi.specs.Words.{pick, Memory, wordAt}
-use Rattle.mi.specs.State.{Registers, userMode, levelOf, flagsOf, withoutLevel, systemBlockOf, validUserStatus, blockFits, mapFits}
-use Rattle.mi.specs.Alarms.{OrAlarm, got, alarm}
-use Rattle.mi.specs.Map.{View, viewOf, viewBy, RealWrites, located, commit}
-use Rattle.mi.specs.Commands.{Done, Act, done, modal, SystemCall, userCommand, KernelEffect, kernelCommand}
-use Rattle.mi.specs.Commands.{halts, resumes}
-use Rattle.mi.specs.Steps.{Outcome, stop, resume, Course, enters, completed, due, userWritten, ofUserCommand, interrupted, userCourse, concluded, userStep, kernelWritten, ofKernelCommand, kernelStep, oneStep}
-use Rattle.mi.specs.Calls.{Stepped}
-use Rattle.mi.proofs.Levels.{due-none, due-pending}
+use Rattle.machine.specs.declared.RealAddress.{RealAddress}
+use Rattle.machine.specs.declared.Desk.{Desk}
+use Rattle.machine.specs.Words.{pick, Memory, wordAt}
+use Rattle.machine.specs.State.{Registers, userMode, levelOf, flagsOf, withoutLevel, systemBlockOf, validUserStatus, blockFits, mapFits}
+use Rattle.machine.specs.Alarms.{OrAlarm, got, alarm}
+use Rattle.machine.specs.Map.{View, viewOf, viewBy, RealWrites, located, commit}
+use Rattle.machine.specs.Commands.{Done, Act, done, modal, SystemCall, userCommand, KernelEffect, kernelCommand}
+use Rattle.machine.specs.Commands.{halts, resumes}
+use Rattle.machine.specs.Steps.{Outcome, stop, resume, Course, enters, completed, due, userWritten, ofUserCommand, interrupted, userCourse, concluded, userStep, kernelWritten, ofKernelCommand, kernelStep, oneStep}
+use Rattle.machine.specs.Calls.{Stepped}
+use Rattle.machine.proofs.Levels.{due-none, due-pending}
 use Rattle.commands.specs.declared.Out.{Out}
 use Rattle.commands.specs.declared.Out.the-variants as out
 use Rattle.commands.specs.Ends.{End, went, calls, haltEnd, resumeEnd, alarmed, outAs, writtenEnd, userEnd, kernelEnd, execOf}

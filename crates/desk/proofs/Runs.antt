@@ -5,20 +5,20 @@ use mathlib.Core.Bool.{true, false}
 use native.Mathlib.Nat.{sub-zero}
 use native.Mathlib.Omega.{arith}
 use lib.ListN.{length}
-use Rattle.mi.specs.declared.Mark.{Mark}
-use Rattle.mi.specs.declared.Mark.the-variants.{Running}
-use Rattle.mi.specs.declared.Desk.{Desk}
-use Rattle.mi.specs.declared.StepReply.{StepReply}
-use Rattle.mi.specs.declared.StepAnswer.{StepAnswer}
-use Rattle.mi.specs.declared.StepAnswer.the-variants as stepAnswer
-use Rattle.mi.specs.declared.Refusal.{Refusal}
-use Rattle.mi.specs.declared.Answer.the-variants.{Accepted, Refused}
-use Rattle.mi.specs.Words.{Memory}
-use Rattle.mi.specs.State.{Registers, isRunning, withoutLevel, deskWith}
-use Rattle.mi.specs.Map.{commit}
-use Rattle.mi.specs.Steps.{enters, oneStep}
-use Rattle.mi.specs.Calls.{Stepped, Ran, ran, unchanged, unlessRefused, stepRefusal, stepOutcome, stepOf, stepsOf, runUnless, runOf}
-use Rattle.mi.proofs.Accepted.{Passes, passes, block-inside, length-whole, length-small, runs, step-lasts, steps-more, steps-stopped, steps-done}
+use Rattle.machine.specs.declared.Mark.{Mark}
+use Rattle.machine.specs.declared.Mark.the-variants.{Running}
+use Rattle.machine.specs.declared.Desk.{Desk}
+use Rattle.machine.specs.declared.StepReply.{StepReply}
+use Rattle.machine.specs.declared.StepAnswer.{StepAnswer}
+use Rattle.machine.specs.declared.StepAnswer.the-variants as stepAnswer
+use Rattle.machine.specs.declared.Refusal.{Refusal}
+use Rattle.machine.specs.declared.Answer.the-variants.{Accepted, Refused}
+use Rattle.machine.specs.Words.{Memory}
+use Rattle.machine.specs.State.{Registers, isRunning, withoutLevel, deskWith}
+use Rattle.machine.specs.Map.{commit}
+use Rattle.machine.specs.Steps.{enters, oneStep}
+use Rattle.machine.specs.Calls.{Stepped, Ran, ran, unchanged, unlessRefused, stepRefusal, stepOutcome, stepOf, stepsOf, runUnless, runOf}
+use Rattle.machine.proofs.Accepted.{Passes, passes, block-inside, length-whole, length-small, runs, step-lasts, steps-more, steps-stopped, steps-done}
 use Rattle.access.specs.Answers.{Fits}
 use Rattle.commands.specs.declared.Out.{Out}
 use Rattle.commands.specs.declared.Out.the-variants as out

@@ -1,16 +1,16 @@
--- What a step hands back, with the memory that it leaves, from an outcome of `mi` or from a command's end.
+-- What a step hands back, with the memory that it leaves, from an outcome of `machine` or from a command's end.
 use Prim.Native.Nat.{ℕ, _+_, _≤_}
 use lib.ListN.{length}
-use Rattle.mi.specs.declared.Desk.{Desk}
-use Rattle.mi.specs.declared.StepReply.{StepReply}
-use Rattle.mi.specs.declared.StepAnswer.{StepAnswer}
-use Rattle.mi.specs.declared.StepAnswer.the-variants as stepAnswer
-use Rattle.mi.specs.declared.RunReply.{RunReply}
-use Rattle.mi.specs.Words.{pick, Memory}
-use Rattle.mi.specs.State.{userMode, levelOf, systemBlockOf, deskWith}
-use Rattle.mi.specs.Map.{realOf, commit}
-use Rattle.mi.specs.Steps.{Outcome, Course, enters, due, concluded, stop, halt, resume}
-use Rattle.mi.specs.Calls.{Stepped, eventAnswer, Ran}
+use Rattle.machine.specs.declared.Desk.{Desk}
+use Rattle.machine.specs.declared.StepReply.{StepReply}
+use Rattle.machine.specs.declared.StepAnswer.{StepAnswer}
+use Rattle.machine.specs.declared.StepAnswer.the-variants as stepAnswer
+use Rattle.machine.specs.declared.RunReply.{RunReply}
+use Rattle.machine.specs.Words.{pick, Memory}
+use Rattle.machine.specs.State.{userMode, levelOf, systemBlockOf, deskWith}
+use Rattle.machine.specs.Map.{realOf, commit}
+use Rattle.machine.specs.Steps.{Outcome, Course, enters, due, concluded, stop, halt, resume}
+use Rattle.machine.specs.Calls.{Stepped, eventAnswer, Ran}
 use Rattle.commands.specs.Ends.{End, went, calls, haltEnd, resumeEnd, alarmed}
 
 -- what kernel entries rely on: numbers 2 and 3 have nothing to refuse

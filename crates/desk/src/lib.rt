@@ -3,22 +3,22 @@ ghost use mathlib.Core.Path.{_≡_};
 ghost use mathlib.Core.Bool.{not, _&&_};
 ghost use Prim.Native.Nat.{_+_, _^_, _≤_};
 ghost use lib.ListN.{length};
-ghost use Rattle.mi.specs.State.{allowedLength, validStatus, isPending, withLevel, withoutLevel, deskWith};
-ghost use Rattle.mi.specs.Steps.{enters, stop as stopOf, resume as resumeOf, oneStep};
-ghost use Rattle.mi.specs.Calls.{refusalNumber, zeroDesk, freshRefusal, freshOf, stepRefusal, stepOf, requestOf, ran, stepsOf, runOf};
+ghost use Rattle.machine.specs.State.{allowedLength, validStatus, isPending, withLevel, withoutLevel, deskWith};
+ghost use Rattle.machine.specs.Steps.{enters, stop as stopOf, resume as resumeOf, oneStep};
+ghost use Rattle.machine.specs.Calls.{refusalNumber, zeroDesk, freshRefusal, freshOf, stepRefusal, stepOf, requestOf, ran, stepsOf, runOf};
 ghost use Rattle.commands.specs.Ends.{outAs};
 ghost use Rattle.desk.specs.Replies.{replyOf, stepped, steppedTo, shown, enteredBy, alarmedBy, concludedEnd, interruptOf, ranAs, Blocks};
 use commands::Out;
-use mi::Answer;
-use mi::Desk;
-use mi::Mark;
-use mi::RealAddress;
-use mi::Refusal;
-use mi::Reply;
-use mi::RunReply;
-use mi::StepAnswer;
-use mi::StepReply;
-use mi::VirtualAddress;
+use machine::Answer;
+use machine::Desk;
+use machine::Mark;
+use machine::RealAddress;
+use machine::Refusal;
+use machine::Reply;
+use machine::RunReply;
+use machine::StepAnswer;
+use machine::StepReply;
+use machine::VirtualAddress;
 
 // ---- Refusals
 

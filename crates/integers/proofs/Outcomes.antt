@@ -4,13 +4,13 @@ use mathlib.Core.Path.{_≡_}
 use mathlib.Core.Bool.{false, not, _&&_}
 use native.Mathlib.Omega.{arith}
 use lib.Dec.{ltb, leb, eqb}
-use Rattle.mi.specs.Words.{pick, span}
-use Rattle.mi.specs.State.{flags}
-use Rattle.mi.specs.Integers.{half, negative, resultOf, added, subtracted, multiplied, divided, compared}
-use Rattle.mi.proofs.Widths.{by-sign}
-use Rattle.mi.proofs.Results.{kept-sum, kept-difference, kept-product}
-use Rattle.mi.proofs.Biased.{biased, biased-order, biased-sum-fits, biased-difference-fits}
-use Rattle.mi.proofs.Magnitudes.{differ, magnitude, product-fits, quotient-fits-by-magnitude, kept-quotient}
+use Rattle.machine.specs.Words.{pick, span}
+use Rattle.machine.specs.State.{flags}
+use Rattle.machine.specs.Integers.{half, negative, resultOf, added, subtracted, multiplied, divided, compared}
+use Rattle.machine.proofs.Widths.{by-sign}
+use Rattle.machine.proofs.Results.{kept-sum, kept-difference, kept-product}
+use Rattle.machine.proofs.Biased.{biased, biased-order, biased-sum-fits, biased-difference-fits}
+use Rattle.machine.proofs.Magnitudes.{differ, magnitude, product-fits, quotient-fits-by-magnitude, kept-quotient}
 
 module _ (L a b : ℕ) (wide : 1 ≤ L) (fa : a < span L) (fb : b < span L) where
   pub added-is : added L a b

@@ -6,10 +6,10 @@ use native.Mathlib.Omega.{arith}
 use native.Mathlib.Decide.{decLt}
 use lib.Bits.{bitXor, xor-comm, xor-shifted, xor-block, xor-zero-r}
 use lib.Pow.{pow-pos}
-use Rattle.mi.specs.declared.Size.{Size}
-use Rattle.mi.specs.declared.Size.the-variants.{B, H, W}
-use Rattle.mi.specs.Words.{lengthOf, span}
-use Rattle.mi.specs.Integers.{half}
+use Rattle.machine.specs.declared.Size.{Size}
+use Rattle.machine.specs.declared.Size.the-variants.{B, H, W}
+use Rattle.machine.specs.Words.{lengthOf, span}
+use Rattle.machine.specs.Integers.{half}
 
 pub some-bytes : (s : Size) → 1 ≤ lengthOf s
 some-bytes B = omega arith

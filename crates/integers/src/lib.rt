@@ -4,11 +4,11 @@ ghost use mathlib.Core.Bool.{not};
 ghost use Prim.Native.Nat.{_+_, _-_, _*_, _/_, _%_, _^_, _≤_, _<_};
 ghost use lib.Dec.{leb, ltb};
 ghost use lib.Bits.{bitAnd, bitOr, bitXor};
-ghost use Rattle.mi.specs.Words.{pick, lengthOf, span};
-ghost use Rattle.mi.specs.State.{bit, flags as flagsFrom};
-ghost use Rattle.mi.specs.Integers.{half, natural, negative, kept, signed, resultOf, plain as plainOf, complement as complementOf, added, subtracted, multiplied, divided, shiftedLeft, shiftedRight, shifted, rotated, compared};
-use mi::Result;
-use mi::Size;
+ghost use Rattle.machine.specs.Words.{pick, lengthOf, span};
+ghost use Rattle.machine.specs.State.{bit, flags as flagsFrom};
+ghost use Rattle.machine.specs.Integers.{half, natural, negative, kept, signed, resultOf, plain as plainOf, complement as complementOf, added, subtracted, multiplied, divided, shiftedLeft, shiftedRight, shifted, rotated, compared};
+use machine::Result;
+use machine::Size;
 
 // The last L bytes.
 pub fn low(size: Size, x: u32) -> u32

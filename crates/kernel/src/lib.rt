@@ -2,12 +2,12 @@
 ghost use mathlib.Core.Path.{_≡_};
 ghost use Prim.Native.Nat.{_+_, _≤_};
 ghost use lib.ListN.{length, take, drop};
-ghost use Rattle.mi.specs.Words.{wordsAt};
-ghost use Rattle.mi.specs.State.{entryR15, entryStatus, savedBytes, validStatus, validUserStatus, validKernelStatus, blockFits as blockFitsOf};
-ghost use Rattle.mi.specs.Map.{realWritesFrom, commit};
-ghost use Rattle.mi.specs.Steps.{due as dueOf};
-use mi::RealAddress;
-use mi::Size;
+ghost use Rattle.machine.specs.Words.{wordsAt};
+ghost use Rattle.machine.specs.State.{entryR15, entryStatus, savedBytes, validStatus, validUserStatus, validKernelStatus, blockFits as blockFitsOf};
+ghost use Rattle.machine.specs.Map.{realWritesFrom, commit};
+ghost use Rattle.machine.specs.Steps.{due as dueOf};
+use machine::RealAddress;
+use machine::Size;
 
 // ---- Status words
 

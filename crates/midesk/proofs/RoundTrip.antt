@@ -10,15 +10,15 @@ use borrow.Author.Tests.{eqb-true, ne-eqb}
 use lib.Dec.{eqb}
 use lib.ListN.{length, getD, take, drop, length-append, take-append-drop}
 use lib.Seq.{take-add, take-at, drop-cons, drop-drop, drop-length, getD-append-add}
-use Rattle.mi.specs.declared.Mark.{Mark}
-use Rattle.mi.specs.declared.Mark.the-variants.{Running, Stopped}
-use Rattle.mi.specs.declared.Desk.{Desk}
-use Rattle.mi.specs.declared.Refusal.{Refusal}
-use Rattle.mi.specs.declared.Answer.the-variants.{Refused}
-use Rattle.mi.specs.Words.{Memory, pick, byteAt, bytesOf, bytesOfWords, wordAt, wordsAt}
-use Rattle.mi.specs.Calls.{stepRefusal, requestRefusal, unchanged, unlessRefused, requestOutcome, requestOf}
-use Rattle.mi.proofs.Bytes.{bytes-length, bytes-joined, word-joined}
-use Rattle.mi.proofs.Blocks.{words-length}
+use Rattle.machine.specs.declared.Mark.{Mark}
+use Rattle.machine.specs.declared.Mark.the-variants.{Running, Stopped}
+use Rattle.machine.specs.declared.Desk.{Desk}
+use Rattle.machine.specs.declared.Refusal.{Refusal}
+use Rattle.machine.specs.declared.Answer.the-variants.{Refused}
+use Rattle.machine.specs.Words.{Memory, pick, byteAt, bytesOf, bytesOfWords, wordAt, wordsAt}
+use Rattle.machine.specs.Calls.{stepRefusal, requestRefusal, unchanged, unlessRefused, requestOutcome, requestOf}
+use Rattle.machine.proofs.Bytes.{bytes-length, bytes-joined, word-joined}
+use Rattle.machine.proofs.Blocks.{words-length}
 use Rattle.desk.proofs.Runs as turns
 use Rattle.midesk.specs.Layout.{stateBytes, runs, markNumber, markOf, wordsOf, packed, unpacked}
 use Rattle.midesk.specs.Exports.{repliedOf, requestCall, stepLeft, stepCall, runLeft, runCall}

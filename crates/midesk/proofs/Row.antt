@@ -6,7 +6,7 @@ use native.Mathlib.Nat.{div-one}
 use native.Mathlib.Omega.{arith}
 use lib.ListN.{length, getD, set, take, drop}
 use lib.Seq.{drop-length, getD-append-add, sets-eq}
-use Rattle.mi.specs.Words.{bytesOf}
+use Rattle.machine.specs.Words.{bytesOf}
 
 pub second-at : (xs ys : List ℕ) (n i : ℕ) → length xs ≡ n → n ≤ i → getD (xs ++ ys) i 0 ≡ getD ys (i - n) 0
 second-at xs ys n i l h =

@@ -9,30 +9,30 @@ use native.Mathlib.Omega.{arith}
 use borrow.Author.Tests.{eqb-false}
 use lib.Dec.{ltb, eqb}
 use lib.ListN.{length}
-use Rattle.mi.specs.declared.VirtualAddress.{VirtualAddress}
-use Rattle.mi.specs.declared.RealAddress.{RealAddress}
-use Rattle.mi.specs.declared.Access.{Access}
-use Rattle.mi.specs.declared.Access.the-variants.{Fetch, Read, Write}
-use Rattle.mi.specs.declared.Role.{Role}
-use Rattle.mi.specs.declared.Role.the-variants as role
-use Rattle.mi.specs.declared.Mark.{Mark}
-use Rattle.mi.specs.declared.Mark.the-variants.{Running, Stopped}
-use Rattle.mi.specs.declared.Desk.{Desk}
-use Rattle.mi.specs.declared.Refusal.{Refusal}
-use Rattle.mi.specs.declared.Refusal.the-variants as refusal
-use Rattle.mi.specs.declared.Answer.{Answer}
-use Rattle.mi.specs.declared.Answer.the-variants.{Accepted, Refused}
-use Rattle.mi.specs.Words.{pick, lengthOf, Memory, wordAt, wrap}
-use Rattle.mi.specs.State.{Registers, reg, userMode, flagsOf, validUserStatus, systemBlockOf, controlBlockBytes, blockFits, mapFits, isRunning}
-use Rattle.mi.specs.Alarms.{OrAlarm, got, alarm, _>>=_}
-use Rattle.mi.specs.Map.{View, Found, inNumberOrder, mapped, unmapped, viewBy, viewOf, readFrom, readBytes, realOf, VirtualWrites, located, commit}
-use Rattle.mi.specs.Code.{Operation, Common, Command, Known, KernelOnly, Rule, known}
-use Rattle.mi.specs.Code as code
-use Rattle.mi.specs.Integers.{operate}
-use Rattle.mi.specs.Operands.{Fields, virtual, past, fieldsAt, keepsRules, byForm, Location, immediate, register, memory, Operand, operandAt, valueIn, addressIn, targetIn, takenBy, Operands, operandsFrom}
-use Rattle.mi.specs.Commands.{popped, commonDone, knownOr12, Allowed, both, only, allowedInKernelMode, Act, done, modal, actOf, KernelEffect, halts, resumes, kernelEffect, commandBy, kernelCommand}
-use Rattle.mi.specs.Steps.{Outcome, Course, goesOn, enters, stop, halt, completed, enterIf, concluded, userStep, resume, kernelWritten, ofKernelCommand, kernelStep, oneStep}
-use Rattle.mi.specs.Calls.{refusalNumber, zeroDesk, freshDesk, freshReply, freshRefusal, freshOf, unchanged, unlessRefused, stepRefusal, stepOutcome, requestRefusal, requestOutcome, Ran, ran, stepsOf, runUnless, runOf}
+use Rattle.machine.specs.declared.VirtualAddress.{VirtualAddress}
+use Rattle.machine.specs.declared.RealAddress.{RealAddress}
+use Rattle.machine.specs.declared.Access.{Access}
+use Rattle.machine.specs.declared.Access.the-variants.{Fetch, Read, Write}
+use Rattle.machine.specs.declared.Role.{Role}
+use Rattle.machine.specs.declared.Role.the-variants as role
+use Rattle.machine.specs.declared.Mark.{Mark}
+use Rattle.machine.specs.declared.Mark.the-variants.{Running, Stopped}
+use Rattle.machine.specs.declared.Desk.{Desk}
+use Rattle.machine.specs.declared.Refusal.{Refusal}
+use Rattle.machine.specs.declared.Refusal.the-variants as refusal
+use Rattle.machine.specs.declared.Answer.{Answer}
+use Rattle.machine.specs.declared.Answer.the-variants.{Accepted, Refused}
+use Rattle.machine.specs.Words.{pick, lengthOf, Memory, wordAt, wrap}
+use Rattle.machine.specs.State.{Registers, reg, userMode, flagsOf, validUserStatus, systemBlockOf, controlBlockBytes, blockFits, mapFits, isRunning}
+use Rattle.machine.specs.Alarms.{OrAlarm, got, alarm, _>>=_}
+use Rattle.machine.specs.Map.{View, Found, inNumberOrder, mapped, unmapped, viewBy, viewOf, readFrom, readBytes, realOf, VirtualWrites, located, commit}
+use Rattle.machine.specs.Code.{Operation, Common, Command, Known, KernelOnly, Rule, known}
+use Rattle.machine.specs.Code as code
+use Rattle.machine.specs.Integers.{operate}
+use Rattle.machine.specs.Operands.{Fields, virtual, past, fieldsAt, keepsRules, byForm, Location, immediate, register, memory, Operand, operandAt, valueIn, addressIn, targetIn, takenBy, Operands, operandsFrom}
+use Rattle.machine.specs.Commands.{popped, commonDone, knownOr12, Allowed, both, only, allowedInKernelMode, Act, done, modal, actOf, KernelEffect, halts, resumes, kernelEffect, commandBy, kernelCommand}
+use Rattle.machine.specs.Steps.{Outcome, Course, goesOn, enters, stop, halt, completed, enterIf, concluded, userStep, resume, kernelWritten, ofKernelCommand, kernelStep, oneStep}
+use Rattle.machine.specs.Calls.{refusalNumber, zeroDesk, freshDesk, freshReply, freshRefusal, freshOf, unchanged, unlessRefused, stepRefusal, stepOutcome, requestRefusal, requestOutcome, Ran, ran, stepsOf, runUnless, runOf}
 use Rattle.midesk.specs.Layout.{runs, markNumber, markOf, unpacked}
 
 -- ---- Every alarm has a number of document 01

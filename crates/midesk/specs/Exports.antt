@@ -1,11 +1,11 @@
--- The four calls on numbers and bytes: unpack the state, make the call of `mi`, pack what it leaves.
+-- The four calls on numbers and bytes: unpack the state, make the call of `machine`, pack what it leaves.
 use Prim.Native.Nat.{ℕ, _+_, _*_}
 use mathlib.Core.List.{List}
-use Rattle.mi.specs.declared.StepAnswer.{StepAnswer}
-use Rattle.mi.specs.declared.StepAnswer.the-variants as stepAnswer
-use Rattle.mi.specs.declared.Reply.{Reply}
-use Rattle.mi.specs.Words.{Memory}
-use Rattle.mi.specs.Calls.{refusalNumber, answerNumber, freshOf, Stepped, stepOf, requestOf, Ran, runOf}
+use Rattle.machine.specs.declared.StepAnswer.{StepAnswer}
+use Rattle.machine.specs.declared.StepAnswer.the-variants as stepAnswer
+use Rattle.machine.specs.declared.Reply.{Reply}
+use Rattle.machine.specs.Words.{Memory}
+use Rattle.machine.specs.Calls.{refusalNumber, answerNumber, freshOf, Stepped, stepOf, requestOf, Ran, runOf}
 use Rattle.midesk.specs.Layout.{packed, unpacked}
 
 -- A call that leaves the memory alone: its answer is the number of its refusal, 0 where it was carried out

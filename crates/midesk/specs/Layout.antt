@@ -11,10 +11,10 @@
 use Prim.Native.Nat.{ℕ, _+_, _*_}
 use mathlib.Core.List.{List, [], _∷_, _++_}
 use lib.Dec.{eqb}
-use Rattle.mi.specs.declared.Mark.{Mark}
-use Rattle.mi.specs.declared.Mark.the-variants.{Running, Stopped}
-use Rattle.mi.specs.declared.Desk.{Desk}
-use Rattle.mi.specs.Words.{pick, byteAt, bytesOf, bytesOfWords, wordAt, wordsAt}
+use Rattle.machine.specs.declared.Mark.{Mark}
+use Rattle.machine.specs.declared.Mark.the-variants.{Running, Stopped}
+use Rattle.machine.specs.declared.Desk.{Desk}
+use Rattle.machine.specs.Words.{pick, byteAt, bytesOf, bytesOfWords, wordAt, wordsAt}
 
 abbrev pub stateBytes : ℕ
 stateBytes = 90

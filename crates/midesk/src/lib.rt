@@ -4,11 +4,11 @@ ghost use Prim.Native.Nat.{_≤_};
 ghost use lib.ListN.{length};
 ghost use Rattle.midesk.specs.Layout.{markNumber, markOf, packed, unpacked};
 ghost use Rattle.midesk.specs.Exports.{freshCall, requestCall, stepCode, stepCall, runCall};
-use mi::Desk;
-use mi::Mark;
-use mi::RealAddress;
-use mi::StepAnswer;
-use mi::VirtualAddress;
+use machine::Desk;
+use machine::Mark;
+use machine::RealAddress;
+use machine::StepAnswer;
+use machine::VirtualAddress;
 
 // ---- The state as bytes
 

@@ -6,15 +6,15 @@ use native.Mathlib.Omega.{arith}
 use native.Mathlib.Nat.{pow-suc}
 use native.Mathlib.Numerals.{add-one}
 use borrow.Author.Tests.{ne-eqb}
-use Rattle.mi.specs.declared.Size.{Size}
-use Rattle.mi.specs.declared.Role.{Role}
-use Rattle.mi.specs.declared.Target.{Target}
-use Rattle.mi.specs.declared.Target.the-variants.{Nowhere}
-use Rattle.mi.specs.Words.{lengthOf}
-use Rattle.mi.specs.State.{Registers}
-use Rattle.mi.specs.Alarms.{OrAlarm, got, alarm, _>>=_}
-use Rattle.mi.specs.Map.{View}
-use Rattle.mi.specs.Operands.{operandAt, Taken, taken, takenBy, Operands, withTaken, operandsFrom, operandsOf}
+use Rattle.machine.specs.declared.Size.{Size}
+use Rattle.machine.specs.declared.Role.{Role}
+use Rattle.machine.specs.declared.Target.{Target}
+use Rattle.machine.specs.declared.Target.the-variants.{Nowhere}
+use Rattle.machine.specs.Words.{lengthOf}
+use Rattle.machine.specs.State.{Registers}
+use Rattle.machine.specs.Alarms.{OrAlarm, got, alarm, _>>=_}
+use Rattle.machine.specs.Map.{View}
+use Rattle.machine.specs.Operands.{operandAt, Taken, taken, takenBy, Operands, withTaken, operandsFrom, operandsOf}
 use Rattle.codes.specs.Rules.{sizeIn, roleIn, rulesFrom, rulesIn}
 use Rattle.operands.specs.declared.Spot.{Spot}
 use Rattle.operands.specs.declared.Spot.the-variants as spot

@@ -1,12 +1,12 @@
 -- What a role takes from an operand in memory whose value it reads.
 use Prim.Native.Nat.{ℕ}
 use mathlib.Core.Path.{_≡_, refl}
-use Rattle.mi.specs.declared.VirtualAddress.{VirtualAddress}
-use Rattle.mi.specs.declared.Access.the-variants.{Read}
-use Rattle.mi.specs.declared.Role.the-variants.{Value, Update}
-use Rattle.mi.specs.State.{Registers}
-use Rattle.mi.specs.Map.{View, readBytes}
-use Rattle.mi.specs.Operands.{memory, at, valueIn, targetIn, takenBy}
+use Rattle.machine.specs.declared.VirtualAddress.{VirtualAddress}
+use Rattle.machine.specs.declared.Access.the-variants.{Read}
+use Rattle.machine.specs.declared.Role.the-variants.{Value, Update}
+use Rattle.machine.specs.State.{Registers}
+use Rattle.machine.specs.Map.{View, readBytes}
+use Rattle.machine.specs.Operands.{memory, at, valueIn, targetIn, takenBy}
 use Rattle.operands.specs.Answers.{takenWith, writtenBy, takenFrom}
 
 module _ (v : View) (place L : ℕ) (a : VirtualAddress) (r : Registers) where

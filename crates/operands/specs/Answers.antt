@@ -1,16 +1,16 @@
--- What the answers of this crate's functions say, in the terms of `mi`.
+-- What the answers of this crate's functions say, in the terms of `machine`.
 use Prim.Native.Nat.{ℕ, _+_, _%_, _<_}
 use mathlib.Core.Path.{_≡_}
-use Rattle.mi.specs.declared.Role.{Role}
-use Rattle.mi.specs.declared.Role.the-variants.{Value, Address, Destination, Update}
-use Rattle.mi.specs.declared.VirtualAddress.{VirtualAddress}
-use Rattle.mi.specs.Words.{span}
-use Rattle.mi.specs.State.{Registers, reg}
-use Rattle.mi.specs.declared.Target.{Target}
-use Rattle.mi.specs.declared.Target.the-variants as target
-use Rattle.mi.specs.Alarms.{OrAlarm, got, alarm, _>>=_}
-use Rattle.mi.specs.Map.{View}
-use Rattle.mi.specs.Operands.{virtual, Location, immediate, register, memory, Operand, at, Taken, taken, takenBy, Operands as Given}
+use Rattle.machine.specs.declared.Role.{Role}
+use Rattle.machine.specs.declared.Role.the-variants.{Value, Address, Destination, Update}
+use Rattle.machine.specs.declared.VirtualAddress.{VirtualAddress}
+use Rattle.machine.specs.Words.{span}
+use Rattle.machine.specs.State.{Registers, reg}
+use Rattle.machine.specs.declared.Target.{Target}
+use Rattle.machine.specs.declared.Target.the-variants as target
+use Rattle.machine.specs.Alarms.{OrAlarm, got, alarm, _>>=_}
+use Rattle.machine.specs.Map.{View}
+use Rattle.machine.specs.Operands.{virtual, Location, immediate, register, memory, Operand, at, Taken, taken, takenBy, Operands as Given}
 use Rattle.access.specs.declared.Got.{Got}
 use Rattle.access.specs.Answers.{gotAs}
 use Rattle.operands.specs.declared.Spot.{Spot}

@@ -3,20 +3,20 @@ ghost use mathlib.Core.Path.{_≡_};
 ghost use mathlib.Core.Bool.{not, _&&_};
 ghost use Prim.Native.Nat.{_*_, _<_};
 ghost use lib.Dec.{eqb};
-ghost use Rattle.mi.specs.Words.{pick, lengthOf, wrap, raised, lowered};
-ghost use Rattle.mi.specs.Map.{viewBy, readBytes};
-ghost use Rattle.mi.specs.Operands.{virtual, immediate, formed, operandAt, operandsOf};
+ghost use Rattle.machine.specs.Words.{pick, lengthOf, wrap, raised, lowered};
+ghost use Rattle.machine.specs.Map.{viewBy, readBytes};
+ghost use Rattle.machine.specs.Operands.{virtual, immediate, formed, operandAt, operandsOf};
 ghost use Rattle.access.specs.Answers.{Fits, gotAs, FetchedFrom};
 ghost use Rattle.operands.specs.Answers.{spotAs, SmallSpot, Behind, tookAs, SmallTarget, SmallTook, takenWith, takenFrom, TakesFrom, TakesRegister, writtenBy, TakesMemory, operandsAs, SmallOperands};
 ghost use Rattle.codes.specs.Rules.{rulesIn};
 use access::Got;
 use access::OperandBytes;
-use mi::Access;
-use mi::RealAddress;
-use mi::Role;
-use mi::Size;
-use mi::Target;
-use mi::VirtualAddress;
+use machine::Access;
+use machine::RealAddress;
+use machine::Role;
+use machine::Size;
+use machine::Target;
+use machine::VirtualAddress;
 
 // Where an operand is, or an alarm and its argument.
 pub enum Spot {

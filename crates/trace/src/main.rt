@@ -8,10 +8,10 @@ ghost use Prim.Native.Nat.{_≤_};
 ghost use Rattle.trace.specs.Length.{leastLength};
 use libc::STDIN_FILENO;
 use libc::STDOUT_FILENO;
-use mi::Desk;
-use mi::Mark;
-use mi::RealAddress;
-use mi::VirtualAddress;
+use machine::Desk;
+use machine::Mark;
+use machine::RealAddress;
+use machine::VirtualAddress;
 
 // The least allowed memory length that covers n bytes.
 fn covering(n: usize) -> usize
@@ -99,7 +99,7 @@ fn main() {
     let n = io::read_full(STDIN_FILENO, &mut mem);
     let mut more = [0u8; 1];
     if io::read_full(STDIN_FILENO, &mut more) != 0 {
-        print_refusal(mi::Refusal::MemoryLength.number());
+        print_refusal(machine::Refusal::MemoryLength.number());
         return;
     }
     let length = covering(n);

@@ -25,7 +25,7 @@
 //! [`numbers`] describes what the desk uses in memory: system block, control block and map.
 //!
 //! The crate links `libmidesk.a`, which `embed/build` of the repository makes. "Document 01" is the paper that defines
-//! the desk; in the repository `crates/mi/specs` defines it, `crates/mi/specs/Code.antt` the bytes of the commands, of
+//! the desk; in the repository `crates/machine/specs` defines it, `crates/machine/specs/Code.antt` the bytes of the commands, of
 //! which `examples/README.md` has examples.
 #![deny(missing_docs)]
 #![deny(unsafe_code)]

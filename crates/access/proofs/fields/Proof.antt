@@ -3,8 +3,8 @@ use Prim.Native.Nat.{_+_, _-_}
 use mathlib.Core.Path.{refl}
 use native.Mathlib.Omega.{arith}
 use borrow.Author.Needs.{needs}
-use Rattle.mi.specs.declared.Access.the-variants.{Fetch}
-use Rattle.mi.proofs.Pages.{found-inside, Finds, page-inside}
+use Rattle.machine.specs.declared.Access.the-variants.{Fetch}
+use Rattle.machine.proofs.Pages.{found-inside, Finds, page-inside}
 use Rattle.access.proofs.OneLookup.{finds-later, fields-page}
 use Rattle.access.proofs.fields.Statement.{statement}
 use Rattle.access.proofs.fields.Tie as tie

@@ -2,8 +2,8 @@
 use mathlib.Core.Path.{refl}
 use native.Mathlib.Omega.{arith}
 use borrow.Author.Needs.{needs}
-use Rattle.mi.specs.declared.Access.the-variants.{Fetch}
-use Rattle.mi.proofs.Pages.{Finds, page-inside}
+use Rattle.machine.specs.declared.Access.the-variants.{Fetch}
+use Rattle.machine.proofs.Pages.{Finds, page-inside}
 use Rattle.access.proofs.Lookups.{look-found, look-alarm}
 use Rattle.access.proofs.OneLookup.{fields-page, fields-alarm}
 use Rattle.access.proofs.fields_anew.Statement.{statement}

@@ -2,8 +2,8 @@
 use mathlib.Core.Path.{_≡_}
 use native.Mathlib.Omega.{arith}
 use borrow.Author.Needs.{needs}
-use Rattle.mi.specs.Words.{wrap}
-use Rattle.mi.specs.Operands.{fieldsAt}
+use Rattle.machine.specs.Words.{wrap}
+use Rattle.machine.specs.Operands.{fieldsAt}
 use Rattle.access.proofs.fields_bytewise.Statement.{statement}
 use Rattle.access.proofs.fields_bytewise.Tie as tie
 

@@ -1,6 +1,6 @@
 -- `in_frame` is right by the definition; a frame number below 32768 keeps the sum small.
 use borrow.Author.Needs.{needs}
-use Rattle.mi.specs.Map.{inFrame}
+use Rattle.machine.specs.Map.{inFrame}
 use Rattle.access.proofs.in_frame.Statement.{statement}
 use Rattle.access.proofs.in_frame.Tie as tie
 

@@ -1,7 +1,7 @@
 -- `look` is right: the test of the status picks the view of its mode, and in kernel mode the test of the address is that view.
 use borrow.Author.Tests.{le-ltb, lt-ltb}
 use borrow.Author.Needs.{needs}
-use Rattle.mi.specs.Map.{viewBy, unmapped}
+use Rattle.machine.specs.Map.{viewBy, unmapped}
 use Rattle.access.proofs.look.Statement.{statement}
 use Rattle.access.proofs.look.Tie as tie
 

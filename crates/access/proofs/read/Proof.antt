@@ -2,8 +2,8 @@
 use mathlib.Core.Path.{_∙_, sym, ap}
 use native.Mathlib.Omega.{arith}
 use borrow.Author.Needs.{needs}
-use Rattle.mi.specs.Alarms.{got}
-use Rattle.mi.proofs.Pages.{read-alarm, page-inside}
+use Rattle.machine.specs.Alarms.{got}
+use Rattle.machine.proofs.Pages.{read-alarm, page-inside}
 use Rattle.access.proofs.Lookups.{look-found, look-alarm}
 use Rattle.access.proofs.OneLookup.{length-bounds, read-page}
 use Rattle.access.proofs.read.Statement.{statement}

@@ -3,8 +3,8 @@ use Prim.Native.Nat.{_≤_, _<_, _-_, _+_}
 use mathlib.Core.Path.{_≡_, sym, _∙_}
 use native.Mathlib.Omega.{arith}
 use borrow.Author.Needs.{needs}
-use Rattle.mi.specs.Words.{span}
-use Rattle.mi.specs.Map.{readFrom, viewBy}
+use Rattle.machine.specs.Words.{span}
+use Rattle.machine.specs.Map.{readFrom, viewBy}
 use Rattle.access.proofs.Lookups.{look-found, look-alarm, look-inside}
 use Rattle.access.proofs.Reading.{three-bytes, one-byte-more, read-all, read-next, read-stops, read-ends}
 use Rattle.access.proofs.read_bytewise.Statement.{statement}

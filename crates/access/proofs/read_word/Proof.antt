@@ -2,9 +2,9 @@
 use mathlib.Core.Path.{_∙_, sym, ap}
 use native.Mathlib.Omega.{arith}
 use borrow.Author.Needs.{needs}
-use Rattle.mi.specs.declared.Access.the-variants.{Read}
-use Rattle.mi.specs.Alarms.{got}
-use Rattle.mi.proofs.Pages.{read-alarm, Finds, page-inside}
+use Rattle.machine.specs.declared.Access.the-variants.{Read}
+use Rattle.machine.specs.Alarms.{got}
+use Rattle.machine.proofs.Pages.{read-alarm, Finds, page-inside}
 use Rattle.access.proofs.Lookups.{look-found, look-alarm}
 use Rattle.access.proofs.OneLookup.{four-byte-value, read-page}
 use Rattle.access.proofs.read_word.Statement.{statement}

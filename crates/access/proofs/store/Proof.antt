@@ -2,9 +2,9 @@
 use mathlib.Core.Path.{_∙_}
 use native.Mathlib.Omega.{arith}
 use borrow.Author.Needs.{needs}
-use Rattle.mi.specs.Words.{lengthOf, bytesOf}
-use Rattle.mi.proofs.Bytes.{bytes-length}
-use Rattle.mi.proofs.Pages.{located-alarm, located-page, page-inside}
+use Rattle.machine.specs.Words.{lengthOf, bytesOf}
+use Rattle.machine.proofs.Bytes.{bytes-length}
+use Rattle.machine.proofs.Pages.{located-alarm, located-page, page-inside}
 use Rattle.access.proofs.Lookups.{look-found, look-alarm}
 use Rattle.access.proofs.OneLookup.{length-bounds}
 use Rattle.access.proofs.store.Statement.{statement}

@@ -5,8 +5,8 @@ use native.Mathlib.Nat.{sub-zero}
 use native.Mathlib.Omega.{arith}
 use borrow.Author.Needs.{needs}
 use lib.ListN.{length-set, length}
-use Rattle.mi.proofs.Pages.{found-inside}
-use Rattle.mi.specs.Map.{viewBy, commit}
+use Rattle.machine.proofs.Pages.{found-inside}
+use Rattle.machine.specs.Map.{viewBy, commit}
 use Rattle.access.specs.Answers.{wrote}
 use Rattle.access.proofs.Lookups.{look-found, look-alarm}
 use Rattle.access.proofs.Storing.{all-located, one-stopped, one-placed, one-written, all-written, writesTo, Placed}

@@ -1,9 +1,9 @@
 -- `store_word` is right: a word that goes to one page goes side by side in memory, and the first byte's alarm is the answer; others are stored by `store`.
 use native.Mathlib.Omega.{arith}
 use borrow.Author.Needs.{needs}
-use Rattle.mi.specs.Words.{bytesOf}
-use Rattle.mi.proofs.Bytes.{bytes-length}
-use Rattle.mi.proofs.Pages.{located-alarm, located-page, page-inside}
+use Rattle.machine.specs.Words.{bytesOf}
+use Rattle.machine.proofs.Bytes.{bytes-length}
+use Rattle.machine.proofs.Pages.{located-alarm, located-page, page-inside}
 use Rattle.access.proofs.Lookups.{look-found, look-alarm}
 use Rattle.access.proofs.store_word.Statement.{statement}
 use Rattle.access.proofs.store_word.Tie as tie

@@ -3,7 +3,7 @@ use mathlib.Core.Path.{sym}
 use native.Mathlib.Omega.{arith}
 use borrow.Author.Needs.{needs}
 use lib.ListN.{length-set}
-use Rattle.mi.proofs.Blocks.{commit-word}
+use Rattle.machine.proofs.Blocks.{commit-word}
 use Rattle.access.proofs.Storing.{one-byte-stored, two-bytes-stored}
 use Rattle.access.proofs.value_to.Statement.{statement}
 use Rattle.access.proofs.value_to.Tie as tie

@@ -1,6 +1,6 @@
 -- `word` is right by the definition: four bytes, each below 256, make a number that fits.
 use borrow.Author.Needs.{needs}
-use Rattle.mi.specs.Words.{wordAt}
+use Rattle.machine.specs.Words.{wordAt}
 use Rattle.access.proofs.word.Statement.{statement}
 use Rattle.access.proofs.word.Tie as tie
 

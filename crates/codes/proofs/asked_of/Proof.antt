@@ -8,11 +8,11 @@ use native.Mathlib.Omega.{arith}
 use borrow.Author.Needs.{needs}
 use mir.Syntax.{w32}
 use mir.Val.{Fits}
-use Rattle.mi.specs.declared.Size.{Size}
-use Rattle.mi.specs.Words.{sizeAt}
-use Rattle.mi.specs.Code.{MOVE, CLEAR, MOVEN, MOVEC, OR, ANDNOT, XOR, ADD, SUB, MULT, DIV, Common, result, CMP, table, knownIn, known}
-use Rattle.mi.specs.Integers.{natural, operate}
-use Rattle.mi.specs.Commands.{jumps}
+use Rattle.machine.specs.declared.Size.{Size}
+use Rattle.machine.specs.Words.{sizeAt}
+use Rattle.machine.specs.Code.{MOVE, CLEAR, MOVEN, MOVEC, OR, ANDNOT, XOR, ADD, SUB, MULT, DIV, Common, result, CMP, table, knownIn, known}
+use Rattle.machine.specs.Integers.{natural, operate}
+use Rattle.machine.specs.Commands.{jumps}
 use Rattle.codes.specs.declared.Asked.{Asked}
 use Rattle.codes.specs.declared.Asked.the-variants.{Alarm}
 use Rattle.codes.specs.Asked.{commonAct, askedOf}

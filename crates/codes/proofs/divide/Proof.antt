@@ -1,7 +1,7 @@
 -- `divide` is right: the divisor's last L bytes are zero where the alarm is.
 use borrow.Author.Needs.{needs}
 use borrow.Author.Tests.{ne-eqb}
-use Rattle.mi.specs.Integers.{operate}
+use Rattle.machine.specs.Integers.{operate}
 use Rattle.codes.proofs.divide.Statement.{statement}
 use Rattle.codes.proofs.divide.Tie as tie
 

@@ -8,7 +8,7 @@ use borrow.Author.Needs.{needs}
 use borrow.Author.Tests.{ltb-true}
 use lib.Dec.{ltb}
 use lib.ListN.{getD}
-use Rattle.mi.specs.Code.{table, knownIn, known}
+use Rattle.machine.specs.Code.{table, knownIn, known}
 use Rattle.codes.specs.Rules.{rulesFrom, rulesIn, knownRules, numbersFrom, tableOf}
 use Rattle.codes.proofs.Bytes.{same}
 use Rattle.codes.proofs.rules_of.Statement.{statement}

@@ -2,8 +2,8 @@
 use Prim.Native.Nat.{ℕ, zero, suc}
 use mathlib.Core.Path.{_≡_, refl}
 use borrow.Author.Needs.{needs}
-use Rattle.mi.specs.declared.Size.the-variants.{W}
-use Rattle.mi.specs.Words.{sizeAt}
+use Rattle.machine.specs.declared.Size.the-variants.{W}
+use Rattle.machine.specs.Words.{sizeAt}
 use Rattle.codes.proofs.size_at.Statement.{statement}
 use Rattle.codes.proofs.size_at.Tie as tie
 

@@ -1,6 +1,6 @@
 -- `table` is right: the constant table is the table of command bytes, each byte's rules as one number.
 use mathlib.Core.Path.{refl}
-use Rattle.mi.specs.Code.{table, knownIn, known}
+use Rattle.machine.specs.Code.{table, knownIn, known}
 use Rattle.codes.specs.Rules.{numbersFrom, tableOf}
 use Rattle.codes.proofs.table.Statement.{statement}
 use Rattle.codes.proofs.table.Tie as tie

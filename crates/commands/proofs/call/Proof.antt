@@ -1,8 +1,8 @@
 -- `call` is right: R15 goes to the stack, whose pointer is lowered, and a store that ends gives the command's end.
 use borrow.Author.Needs.{needs}
-use Rattle.mi.specs.State.{flagsOf}
-use Rattle.mi.specs.Map.{viewBy}
-use Rattle.mi.specs.Commands.{called}
+use Rattle.machine.specs.State.{flagsOf}
+use Rattle.machine.specs.Map.{viewBy}
+use Rattle.machine.specs.Commands.{called}
 use Rattle.commands.proofs.Laws.{stored-end, same-status}
 use Rattle.commands.proofs.call.Statement.{statement}
 use Rattle.commands.proofs.call.Tie as tie

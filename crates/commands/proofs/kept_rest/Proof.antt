@@ -1,7 +1,7 @@
 -- `kept_rest` is right for each size: the high part of the old number and the low part of the new one.
 use native.Mathlib.Omega.{arith}
 use borrow.Author.Needs.{needs}
-use Rattle.mi.specs.Commands.{keptRest}
+use Rattle.machine.specs.Commands.{keptRest}
 use Rattle.commands.proofs.kept_rest.Statement.{statement}
 use Rattle.commands.proofs.kept_rest.Tie as tie
 

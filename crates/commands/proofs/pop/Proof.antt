@@ -3,8 +3,8 @@ use Prim.Native.Nat.{_≤_, _-_}
 use mathlib.Core.Path.{_≡_, refl, sym, _∙_}
 use native.Mathlib.Omega.{arith}
 use borrow.Author.Needs.{needs}
-use Rattle.mi.specs.Map.{viewBy, located, commit}
-use Rattle.mi.specs.Commands.{popped}
+use Rattle.machine.specs.Map.{viewBy, located, commit}
+use Rattle.machine.specs.Commands.{popped}
 use Rattle.commands.proofs.Laws.{same-status}
 use Rattle.commands.proofs.Stack.{popped-next, popped-alarm, popped-all}
 use Rattle.commands.proofs.pop.Statement.{statement}

@@ -1,7 +1,7 @@
 -- `push` is right: the row of words goes to the addresses from SP lowered by 60 on, and a store that ends gives the command's end.
 use borrow.Author.Needs.{needs}
-use Rattle.mi.specs.State.{reg, flagsOf}
-use Rattle.mi.specs.Map.{viewBy}
+use Rattle.machine.specs.State.{reg, flagsOf}
+use Rattle.machine.specs.Map.{viewBy}
 use Rattle.commands.proofs.Laws.{stored-end, same-status}
 use Rattle.commands.proofs.Stack.{pushed-all, row-bytes}
 use Rattle.commands.proofs.push.Statement.{statement}

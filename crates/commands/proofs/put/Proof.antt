@@ -1,7 +1,7 @@
 -- `put` is right for each target: a register keeps its rest, and a store that ends gives the command's end.
 use borrow.Author.Needs.{needs}
-use Rattle.mi.specs.Map.{viewBy, located, commit}
-use Rattle.mi.specs.Commands.{stored}
+use Rattle.machine.specs.Map.{viewBy, located, commit}
+use Rattle.machine.specs.Commands.{stored}
 use Rattle.commands.proofs.Laws.{stored-end}
 use Rattle.commands.proofs.put.Statement.{statement}
 use Rattle.commands.proofs.put.Tie as tie

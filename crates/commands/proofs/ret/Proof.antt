@@ -1,7 +1,7 @@
 -- `ret` is right: the word at SP goes to R15 and SP is raised; where its read alarms, so does the command.
 use borrow.Author.Needs.{needs}
-use Rattle.mi.specs.Map.{located, commit}
-use Rattle.mi.specs.Commands.{returned}
+use Rattle.machine.specs.Map.{located, commit}
+use Rattle.machine.specs.Commands.{returned}
 use Rattle.commands.proofs.Laws.{read-virtual, same-status}
 use Rattle.commands.proofs.ret.Statement.{statement}
 use Rattle.commands.proofs.ret.Tie as tie

@@ -7,9 +7,9 @@ use native.Mathlib.Omega.{arith}
 use borrow.Author.Needs.{needs}
 use lib.ListN.{length, take, getD, length-set}
 use lib.Seq.{take-all}
-use Rattle.mi.specs.Words.{bytesOfWords}
-use Rattle.mi.specs.State.{registersFrom}
-use Rattle.mi.proofs.Blocks.{word-laid}
+use Rattle.machine.specs.Words.{bytesOfWords}
+use Rattle.machine.specs.State.{registersFrom}
+use Rattle.machine.proofs.Blocks.{word-laid}
 use Rattle.commands.proofs.Stack.{row-length, row-register, row-sp}
 use Rattle.commands.proofs.stacked.Statement.{statement}
 use Rattle.commands.proofs.stacked.Tie as tie

@@ -1,6 +1,6 @@
 -- `with_flags` is right: it computes what `withFlags` says, and that fits.
 use borrow.Author.Needs.{needs}
-use Rattle.mi.specs.State.{withFlags}
+use Rattle.machine.specs.State.{withFlags}
 use Rattle.commands.proofs.with_flags.Statement.{statement}
 use Rattle.commands.proofs.with_flags.Tie as tie
 

@@ -1,6 +1,6 @@
 -- `block_refusal` is right: each test is one of the definition, tried in its order: the first that fails answers, and none means accepted.
 use borrow.Author.Needs.{needs}
-use Rattle.mi.specs.Calls.{firstRefused, freshRefusal}
+use Rattle.machine.specs.Calls.{firstRefused, freshRefusal}
 use Rattle.desk.proofs.Tests.{fails, holds}
 use Rattle.desk.proofs.block_refusal.Statement.{statement}
 use Rattle.desk.proofs.block_refusal.Tie as tie

@@ -1,7 +1,7 @@
 -- `conclude` is right: each way to end is one case of the definition.
 use borrow.Author.Needs.{needs}
-use Rattle.mi.specs.Steps.{halt}
-use Rattle.mi.specs.Map.{commit}
+use Rattle.machine.specs.Steps.{halt}
+use Rattle.machine.specs.Map.{commit}
 use Rattle.desk.specs.Replies.{concludedEnd}
 use Rattle.desk.proofs.Ending.{resume-quiet}
 use Rattle.desk.proofs.conclude.Statement.{statement}

@@ -1,8 +1,8 @@
 -- `enter` is right: the system block names the new R15 and status; where that status is valid the registers are saved, and nothing changes where it is not.
 use borrow.Author.Needs.{needs}
-use Rattle.mi.specs.Steps.{stop, enterIf, concluded}
-use Rattle.mi.specs.Map.{commit}
-use Rattle.mi.specs.State.{systemBlockOf}
+use Rattle.machine.specs.Steps.{stop, enterIf, concluded}
+use Rattle.machine.specs.Map.{commit}
+use Rattle.machine.specs.State.{systemBlockOf}
 use Rattle.desk.proofs.Tests.{fails, holds}
 use Rattle.desk.proofs.enter.Statement.{statement}
 use Rattle.desk.proofs.enter.Tie as tie

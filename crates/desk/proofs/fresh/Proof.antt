@@ -1,6 +1,6 @@
 -- `fresh` is right: the blocks' answer decides: with a refusal the all-zero desk, else the fresh one.
 use borrow.Author.Needs.{needs}
-use Rattle.mi.specs.Calls.{freshReply, freshDesk, freshOf}
+use Rattle.machine.specs.Calls.{freshReply, freshDesk, freshOf}
 use Rattle.desk.proofs.fresh.Statement.{statement}
 use Rattle.desk.proofs.fresh.Tie as tie
 

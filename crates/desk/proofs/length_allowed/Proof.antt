@@ -5,7 +5,7 @@ use mathlib.Core.Bool.{_&&_}
 use mathlib.Core.Logic.{⊎-elim}
 use borrow.Author.Tests.{eq-eqb, ne-eqb}
 use lib.Dec.{eqb, leb}
-use Rattle.mi.specs.State.{allowedLength}
+use Rattle.machine.specs.State.{allowedLength}
 use Rattle.desk.proofs.length_allowed.Statement.{statement}
 use Rattle.desk.proofs.length_allowed.Tie as tie
 

@@ -1,8 +1,8 @@
 -- `refusal` is right: the blocks' answer comes first; where it accepts, the tests of numbers 4, 5 and 7 follow in the definition's order.
 use mathlib.Core.Path.{_≡_, sym, _∙_}
 use borrow.Author.Needs.{needs}
-use Rattle.mi.specs.Calls.{firstRefused, stepRefusal, passes5}
-use Rattle.mi.proofs.Refusals.{orElse, laterRefusal, step-parts}
+use Rattle.machine.specs.Calls.{firstRefused, stepRefusal, passes5}
+use Rattle.machine.proofs.Refusals.{orElse, laterRefusal, step-parts}
 use Rattle.desk.proofs.Tests.{fails, holds}
 use Rattle.desk.proofs.refusal.Statement.{statement}
 use Rattle.desk.proofs.refusal.Tie as tie

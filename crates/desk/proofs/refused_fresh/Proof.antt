@@ -1,6 +1,6 @@
 -- `refused_fresh` is right: the desk is all zero, and its mark has the number of the refusal.
 use borrow.Author.Needs.{needs}
-use Rattle.mi.specs.Calls.{zeroDesk}
+use Rattle.machine.specs.Calls.{zeroDesk}
 use Rattle.desk.proofs.refused_fresh.Statement.{statement}
 use Rattle.desk.proofs.refused_fresh.Tie as tie
 

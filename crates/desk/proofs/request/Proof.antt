@@ -1,7 +1,7 @@
 -- `request` is right: the tests are those of the definition, in its order; a refusal hands the desk back, and only the pending set changes otherwise.
 use borrow.Author.Tests.{lt-leb, le-leb}
 use borrow.Author.Needs.{needs}
-use Rattle.mi.specs.Calls.{firstRefused, passes5, passes6, unchanged, unlessRefused, requestRefusal, requestOutcome, requestOf}
+use Rattle.machine.specs.Calls.{firstRefused, passes5, passes6, unchanged, unlessRefused, requestRefusal, requestOutcome, requestOf}
 use Rattle.desk.proofs.Tests.{fails, holds}
 use Rattle.desk.proofs.request.Statement.{statement}
 use Rattle.desk.proofs.request.Tie as tie

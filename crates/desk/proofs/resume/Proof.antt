@@ -5,9 +5,9 @@ use mathlib.Core.Bool.{true}
 use native.Mathlib.Omega.{arith}
 use borrow.Author.Needs.{needs}
 use lib.ListN.{length}
-use Rattle.mi.specs.State.{blockFits}
-use Rattle.mi.specs.Steps.{resume}
-use Rattle.mi.proofs.Accepted.{block-inside}
+use Rattle.machine.specs.State.{blockFits}
+use Rattle.machine.specs.Steps.{resume}
+use Rattle.machine.proofs.Accepted.{block-inside}
 use Rattle.desk.proofs.Tests.{fails, holds}
 use Rattle.desk.proofs.resume.Statement.{statement}
 use Rattle.desk.proofs.resume.Tie as tie

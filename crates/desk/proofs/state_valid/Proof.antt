@@ -1,7 +1,7 @@
 -- `state_valid` is right: the first test is the status, the second the bit of level 0.
 use native.Mathlib.Nat.{div-one}
 use borrow.Author.Needs.{needs}
-use Rattle.mi.specs.State.{isPending}
+use Rattle.machine.specs.State.{isPending}
 use Rattle.desk.proofs.state_valid.Statement.{statement}
 use Rattle.desk.proofs.state_valid.Tie as tie
 

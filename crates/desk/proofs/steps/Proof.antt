@@ -4,8 +4,8 @@ use mathlib.Core.Path.{_≡_, refl, ap, _∙_}
 use mathlib.Core.Logic.{⊎-elim}
 use native.Mathlib.Omega.{arith}
 use borrow.Author.Needs.{needs}
-use Rattle.mi.specs.State.{isRunning}
-use Rattle.mi.specs.Calls.{stepsOf}
+use Rattle.machine.specs.State.{isRunning}
+use Rattle.machine.specs.Calls.{stepsOf}
 use Rattle.desk.specs.Replies.{interruptOf}
 use Rattle.desk.proofs.Ending.{level-pending}
 use Rattle.desk.proofs.Runs.{blocks, map-fits, going, Midway, After, start, go-on, stopped, finished, after-level, after-command, after-quiet}

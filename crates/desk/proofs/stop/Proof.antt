@@ -1,6 +1,6 @@
 -- `stop` is right: only the mark changes.
 use borrow.Author.Needs.{needs}
-use Rattle.mi.specs.Steps.{stop}
+use Rattle.machine.specs.Steps.{stop}
 use Rattle.desk.proofs.stop.Statement.{statement}
 use Rattle.desk.proofs.stop.Tie as tie
 

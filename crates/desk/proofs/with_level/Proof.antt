@@ -6,8 +6,8 @@ use native.Mathlib.Omega.{arith}
 use borrow.Author.Tests.{eq-eqb, ne-eqb}
 use borrow.Author.Needs.{needs}
 use lib.Pow.{shl-exact}
-use Rattle.mi.specs.State.{isPending, withLevel}
-use Rattle.mi.proofs.Levels.{level-fits}
+use Rattle.machine.specs.State.{isPending, withLevel}
+use Rattle.machine.proofs.Levels.{level-fits}
 use Rattle.desk.proofs.with_level.Statement.{statement}
 use Rattle.desk.proofs.with_level.Tie as tie
 

@@ -1,6 +1,6 @@
 -- `without_level` is right: the level is in the set, so its bit can be taken off.
 use borrow.Author.Needs.{needs}
-use Rattle.mi.specs.State.{withoutLevel}
+use Rattle.machine.specs.State.{withoutLevel}
 use Rattle.desk.proofs.without_level.Statement.{statement}
 use Rattle.desk.proofs.without_level.Tie as tie
 

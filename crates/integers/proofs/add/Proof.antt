@@ -1,8 +1,8 @@
 -- `add` is right: the sum by its last L bytes and its carry, and V where the sum of the biased numbers leaves the range.
 use borrow.Author.Needs.{needs}
 use Prim.Native.Nat.{_+_}
-use Rattle.mi.specs.Words.{lengthOf}
-use Rattle.mi.proofs.Biased.{biased}
+use Rattle.machine.specs.Words.{lengthOf}
+use Rattle.machine.proofs.Biased.{biased}
 use Rattle.integers.proofs.Sized.{some-bytes, low-word}
 use Rattle.integers.proofs.Outcomes.{added-is}
 use Rattle.integers.proofs.add.Statement.{statement}

@@ -4,9 +4,9 @@ use native.Mathlib.Omega.{arith}
 use Prim.Native.Nat.{_+_, _%_, _<_}
 use mathlib.Core.Path.{refl}
 use native.Mathlib.Nat.{mod-lt}
-use Rattle.mi.specs.Words.{lengthOf, span}
-use Rattle.mi.specs.Integers.{half}
-use Rattle.mi.proofs.Widths.{span-positive}
+use Rattle.machine.specs.Words.{lengthOf, span}
+use Rattle.machine.specs.Integers.{half}
+use Rattle.machine.proofs.Widths.{span-positive}
 use Rattle.integers.proofs.Sized.{span-word, half-turned}
 use Rattle.integers.proofs.biased.Statement.{statement}
 use Rattle.integers.proofs.biased.Tie as tie

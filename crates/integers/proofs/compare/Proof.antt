@@ -1,7 +1,7 @@
 -- `compare` is right: biased numbers are in the order of the signed ones.
 use borrow.Author.Needs.{needs}
-use Rattle.mi.specs.Words.{lengthOf}
-use Rattle.mi.proofs.Biased.{biased}
+use Rattle.machine.specs.Words.{lengthOf}
+use Rattle.machine.proofs.Biased.{biased}
 use Rattle.integers.proofs.Sized.{some-bytes}
 use Rattle.integers.proofs.Outcomes.{compared-is}
 use Rattle.integers.proofs.compare.Statement.{statement}

@@ -1,7 +1,7 @@
 -- `complement` is right: of 256 ^ L - 1 the last L bytes are taken away, as the definition says.
 use borrow.Author.Needs.{needs}
 use native.Mathlib.Omega.{arith}
-use Rattle.mi.specs.Integers.{complement}
+use Rattle.machine.specs.Integers.{complement}
 use Rattle.integers.proofs.complement.Statement.{statement}
 use Rattle.integers.proofs.complement.Tie as tie
 

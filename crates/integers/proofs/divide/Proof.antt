@@ -2,8 +2,8 @@
 use borrow.Author.Needs.{needs}
 use native.Mathlib.Omega.{arith}
 use native.Mathlib.Nat.{div-le-self}
-use Rattle.mi.specs.Words.{lengthOf}
-use Rattle.mi.proofs.Magnitudes.{magnitude}
+use Rattle.machine.specs.Words.{lengthOf}
+use Rattle.machine.proofs.Magnitudes.{magnitude}
 use Rattle.integers.proofs.Sized.{some-bytes, span-word}
 use Rattle.integers.proofs.Outcomes.{divided-is, magnitude-positive}
 use Rattle.integers.proofs.divide.Statement.{statement}

@@ -3,8 +3,8 @@ use borrow.Author.Needs.{needs}
 use native.Mathlib.Omega.{arith}
 use Prim.Native.Nat.{_%_}
 use borrow.Author.Tests.{le-leb, lt-leb}
-use Rattle.mi.specs.Integers.{negative}
-use Rattle.mi.proofs.Magnitudes.{kept-extension}
+use Rattle.machine.specs.Integers.{negative}
+use Rattle.machine.proofs.Magnitudes.{kept-extension}
 use Rattle.integers.proofs.extend.Statement.{statement}
 use Rattle.integers.proofs.extend.Tie as tie
 

@@ -1,6 +1,6 @@
 -- `is_negative` is right: the highest bit is set where the number is at least half the span.
 use borrow.Author.Needs.{needs}
-use Rattle.mi.specs.Integers.{negative}
+use Rattle.machine.specs.Integers.{negative}
 use Rattle.integers.proofs.is_negative.Statement.{statement}
 use Rattle.integers.proofs.is_negative.Tie as tie
 

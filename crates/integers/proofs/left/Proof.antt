@@ -1,7 +1,7 @@
 -- `left` is right: 32 times or more to the left no bit is left.
 use borrow.Author.Needs.{needs}
 use mathlib.Core.Path.{sym}
-use Rattle.mi.proofs.Magnitudes.{shift-left-all}
+use Rattle.machine.proofs.Magnitudes.{shift-left-all}
 use Rattle.integers.proofs.left.Statement.{statement}
 use Rattle.integers.proofs.left.Tie as tie
 

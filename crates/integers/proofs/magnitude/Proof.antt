@@ -4,9 +4,9 @@ use native.Mathlib.Omega.{arith}
 use Prim.Native.Nat.{_-_, _≤_}
 use mathlib.Core.Path.{_≡_, sym, _∙_}
 use mathlib.Core.Bool.{true, false}
-use Rattle.mi.specs.Words.{lengthOf}
-use Rattle.mi.specs.Integers.{half, negative}
-use Rattle.mi.proofs.Magnitudes.{magnitude, magnitude-half}
+use Rattle.machine.specs.Words.{lengthOf}
+use Rattle.machine.specs.Integers.{half, negative}
+use Rattle.machine.proofs.Magnitudes.{magnitude, magnitude-half}
 use Rattle.integers.proofs.Sized.{some-bytes, span-word}
 use Rattle.integers.proofs.magnitude.Statement.{statement}
 use Rattle.integers.proofs.magnitude.Tie as tie

@@ -2,8 +2,8 @@
 use borrow.Author.Needs.{needs}
 use native.Mathlib.Omega.{arith}
 use Prim.Native.Nat.{_*_}
-use Rattle.mi.specs.Words.{lengthOf}
-use Rattle.mi.proofs.Magnitudes.{magnitude}
+use Rattle.machine.specs.Words.{lengthOf}
+use Rattle.machine.proofs.Magnitudes.{magnitude}
 use Rattle.integers.proofs.Sized.{some-bytes, span-word, low-word, product-fits}
 use Rattle.integers.proofs.Outcomes.{multiplied-is}
 use Rattle.integers.proofs.multiply.Statement.{statement}

@@ -1,6 +1,6 @@
 -- `result` is right: N by comparison with half the span, Z by comparison with 0, V and C as they were given.
 use borrow.Author.Needs.{needs}
-use Rattle.mi.specs.Integers.{negative, resultOf}
+use Rattle.machine.specs.Integers.{negative, resultOf}
 use Rattle.integers.proofs.result.Statement.{statement}
 use Rattle.integers.proofs.result.Tie as tie
 

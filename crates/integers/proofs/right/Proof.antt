@@ -3,7 +3,7 @@ use borrow.Author.Needs.{needs}
 use native.Mathlib.Omega.{arith}
 use mathlib.Core.Path.{refl, sym}
 use lib.Pow.{shr-le}
-use Rattle.mi.proofs.Magnitudes.{shift-right-all}
+use Rattle.machine.proofs.Magnitudes.{shift-right-all}
 use Rattle.integers.proofs.right.Statement.{statement}
 use Rattle.integers.proofs.right.Tie as tie
 

@@ -1,7 +1,7 @@
 -- `rotate` is right: the upper half of the word twice over, after n times to the left, is the word rotated.
 use borrow.Author.Needs.{needs}
 use mathlib.Core.Path.{sym, _∙_}
-use Rattle.mi.proofs.Shifts.{rotated-is}
+use Rattle.machine.proofs.Shifts.{rotated-is}
 use Rattle.integers.proofs.rotate.Statement.{statement}
 use Rattle.integers.proofs.rotate.Tie as tie
 

@@ -3,8 +3,8 @@ use borrow.Author.Needs.{needs}
 use native.Mathlib.Omega.{arith}
 use Prim.Native.Nat.{ℕ}
 use mathlib.Core.Path.{ap, sym, _∙_}
-use Rattle.mi.specs.Integers.{shiftedRight}
-use Rattle.mi.proofs.Shifts.{shifted-left, shifted-right}
+use Rattle.machine.specs.Integers.{shiftedRight}
+use Rattle.machine.proofs.Shifts.{shifted-left, shifted-right}
 use Rattle.integers.proofs.shift.Statement.{statement}
 use Rattle.integers.proofs.shift.Tie as tie
 

@@ -1,6 +1,6 @@
 -- `shift_left` is right: the word by the definition, and V where the signs differ.
 use borrow.Author.Needs.{needs}
-use Rattle.mi.specs.Integers.{shiftedLeft}
+use Rattle.machine.specs.Integers.{shiftedLeft}
 use Rattle.integers.proofs.shift_left.Statement.{statement}
 use Rattle.integers.proofs.shift_left.Tie as tie
 

@@ -3,8 +3,8 @@ use borrow.Author.Needs.{needs}
 use native.Mathlib.Omega.{arith}
 use mathlib.Core.Path.{_≡_, sym, _∙_}
 use mathlib.Core.Bool.{true, false}
-use Rattle.mi.specs.Integers.{negative}
-use Rattle.mi.proofs.Shifts.{shiftedRight-is}
+use Rattle.machine.specs.Integers.{negative}
+use Rattle.machine.proofs.Shifts.{shiftedRight-is}
 use Rattle.integers.proofs.shift_right.Statement.{statement}
 use Rattle.integers.proofs.shift_right.Tie as tie
 

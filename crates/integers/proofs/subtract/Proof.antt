@@ -1,8 +1,8 @@
 -- `subtract` is right: the difference by its last L bytes and its borrow, and V where the difference of the biased numbers leaves the range.
 use borrow.Author.Needs.{needs}
 use native.Mathlib.Omega.{arith}
-use Rattle.mi.specs.Words.{lengthOf}
-use Rattle.mi.proofs.Biased.{biased}
+use Rattle.machine.specs.Words.{lengthOf}
+use Rattle.machine.proofs.Biased.{biased}
 use Rattle.integers.proofs.Sized.{some-bytes, low-difference}
 use Rattle.integers.proofs.Outcomes.{subtracted-is}
 use Rattle.integers.proofs.subtract.Statement.{statement}

@@ -1,7 +1,7 @@
 -- `block_fits` is right: the first test is the alignment, the second the end; a sum of an address and a length that is bounded fits 64 bits.
 use borrow.Author.Needs.{needs}
 use borrow.Author.Tests.{eq-eqb, ne-eqb}
-use Rattle.mi.specs.State.{blockFits}
+use Rattle.machine.specs.State.{blockFits}
 use Rattle.kernel.proofs.block_fits.Statement.{statement}
 use Rattle.kernel.proofs.block_fits.Tie as tie
 

@@ -4,8 +4,8 @@ use mathlib.Core.Logic.{⊎-elim}
 use mathlib.Core.Path.{_≡_, sym, _∙_}
 use native.Mathlib.Omega.{arith}
 use borrow.Author.Needs.{needs}
-use Rattle.mi.specs.Steps.{due}
-use Rattle.mi.proofs.Levels.{due-here, due-free, due-held}
+use Rattle.machine.specs.Steps.{due}
+use Rattle.machine.proofs.Levels.{due-here, due-free, due-held}
 use Rattle.kernel.proofs.due.Statement.{statement}
 use Rattle.kernel.proofs.due.Tie as tie
 

@@ -3,7 +3,7 @@ use Prim.Native.Nat.{_*_}
 use mathlib.Core.Path.{sym, _∙_}
 use native.Mathlib.Omega.{arith}
 use borrow.Author.Needs.{needs}
-use Rattle.mi.proofs.Blocks.{block-word, no-word}
+use Rattle.machine.proofs.Blocks.{block-word, no-word}
 use Rattle.kernel.proofs.entry_r15.Statement.{statement}
 use Rattle.kernel.proofs.entry_r15.Tie as tie
 

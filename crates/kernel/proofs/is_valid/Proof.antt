@@ -1,6 +1,6 @@
 -- `is_valid` is right: A status word is valid where the bits between mode and level are 0, which is the test.
 use mathlib.Core.Path.{refl}
-use Rattle.mi.specs.State.{validStatus}
+use Rattle.machine.specs.State.{validStatus}
 use Rattle.kernel.proofs.is_valid.Statement.{statement}
 use Rattle.kernel.proofs.is_valid.Tie as tie
 

@@ -1,6 +1,6 @@
 -- `is_valid_kernel` is right: the first test tells the mode; in kernel mode the second decides.
 use borrow.Author.Tests.{lt-ltb, le-ltb, lt-leb}
-use Rattle.mi.specs.State.{validStatus, validKernelStatus}
+use Rattle.machine.specs.State.{validStatus, validKernelStatus}
 use Rattle.kernel.proofs.is_valid_kernel.Statement.{statement}
 use Rattle.kernel.proofs.is_valid_kernel.Tie as tie
 

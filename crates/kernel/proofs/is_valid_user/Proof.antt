@@ -1,6 +1,6 @@
 -- `is_valid_user` is right: the first test tells the mode; in user mode the second decides.
 use borrow.Author.Tests.{lt-ltb, le-ltb}
-use Rattle.mi.specs.State.{validStatus, validUserStatus}
+use Rattle.machine.specs.State.{validStatus, validUserStatus}
 use Rattle.kernel.proofs.is_valid_user.Statement.{statement}
 use Rattle.kernel.proofs.is_valid_user.Tie as tie
 

@@ -6,8 +6,8 @@ use native.Mathlib.Omega.{arith}
 use borrow.Author.Needs.{needs}
 use lib.Seq.{take-all, take-suc-set}
 use lib.ListN.{length, take, length-set}
-use Rattle.mi.specs.Words.{wordsAt}
-use Rattle.mi.proofs.Blocks.{words-more}
+use Rattle.machine.specs.Words.{wordsAt}
+use Rattle.machine.proofs.Blocks.{words-more}
 use Rattle.kernel.proofs.load.Statement.{statement}
 use Rattle.kernel.proofs.load.Tie as tie
 

@@ -6,10 +6,10 @@ use native.Mathlib.Nat.{add-zero}
 use native.Mathlib.Omega.{arith}
 use borrow.Author.Needs.{needs}
 use lib.ListN.{length}
-use Rattle.mi.specs.Words.{bytesOfWords}
-use Rattle.mi.specs.State.{registersFrom, savedBytes}
-use Rattle.mi.specs.Map.{realWritesFrom, commit}
-use Rattle.mi.proofs.Blocks.{commit-registers, commit-pair}
+use Rattle.machine.specs.Words.{bytesOfWords}
+use Rattle.machine.specs.State.{registersFrom, savedBytes}
+use Rattle.machine.specs.Map.{realWritesFrom, commit}
+use Rattle.machine.proofs.Blocks.{commit-registers, commit-pair}
 use Rattle.kernel.proofs.save.Statement.{statement}
 use Rattle.kernel.proofs.save.Tie as tie
 

@@ -7,8 +7,8 @@ use native.Mathlib.Omega.{arith}
 use borrow.Author.Needs.{needs}
 use lib.ListN.{length, take, getD, length-set, length-append, List·getD-append}
 use lib.Seq.{take-all}
-use Rattle.mi.specs.Words.{bytesOfWords}
-use Rattle.mi.proofs.Blocks.{word-laid}
+use Rattle.machine.specs.Words.{bytesOfWords}
+use Rattle.machine.proofs.Blocks.{word-laid}
 use Rattle.midesk.specs.Layout.{wordsOf, packed}
 use Rattle.midesk.proofs.Row.{second-at, pair-laid}
 use Rattle.midesk.proofs.pack.Statement.{statement}

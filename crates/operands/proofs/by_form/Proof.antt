@@ -3,7 +3,7 @@ use mathlib.Core.Logic.{⊎-elim}
 use native.Mathlib.Nat.{add-zero, mod-mod, mod-add-mod, add-mod-mod}
 use borrow.Author.Tests.{eq-eqb, ne-eqb, lt-leb}
 use borrow.Author.Needs.{needs}
-use Rattle.mi.specs.Operands.{keepsRules, byForm}
+use Rattle.machine.specs.Operands.{keepsRules, byForm}
 use Rattle.operands.proofs.Forms.{no-form}
 use Rattle.operands.proofs.by_form.Statement.{statement}
 use Rattle.operands.proofs.by_form.Tie as tie

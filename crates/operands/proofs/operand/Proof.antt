@@ -1,7 +1,7 @@
 -- `operand` is right: the fields at R15, R15 moved past them, and then the form.
 use native.Mathlib.Omega.{arith}
 use borrow.Author.Needs.{needs}
-use Rattle.mi.specs.Operands.{operandAt}
+use Rattle.machine.specs.Operands.{operandAt}
 use Rattle.operands.proofs.operand.Statement.{statement}
 use Rattle.operands.proofs.operand.Tie as tie
 

@@ -1,8 +1,8 @@
 -- `take_all` is right. The loop's invariant: the operands that are left give what all of them give. The measure is the number that holds their rules.
 use native.Mathlib.Omega.{arith}
 use borrow.Author.Needs.{needs}
-use Rattle.mi.specs.Operands.{withTaken, operandsOf}
-use Rattle.mi.specs.Map.{viewBy}
+use Rattle.machine.specs.Operands.{withTaken, operandsOf}
+use Rattle.machine.specs.Map.{viewBy}
 use Rattle.codes.specs.Rules.{rulesIn}
 use Rattle.operands.specs.Answers.{SmallTarget}
 use Rattle.operands.proofs.Remaining.{Left, all-left, none-left, next-alarm, next-left}

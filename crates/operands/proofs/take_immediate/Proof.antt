@@ -1,6 +1,6 @@
 -- `take_immediate` is right: each arm is one case of the definition.
 use borrow.Author.Needs.{needs}
-use Rattle.mi.specs.Operands.{valueIn, addressIn, targetIn, takenBy}
+use Rattle.machine.specs.Operands.{valueIn, addressIn, targetIn, takenBy}
 use Rattle.operands.proofs.take_immediate.Statement.{statement}
 use Rattle.operands.proofs.take_immediate.Tie as tie
 

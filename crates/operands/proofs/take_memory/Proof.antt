@@ -1,7 +1,7 @@
 -- `take_memory` is right: an address and a destination are not read, and what is read goes with its target.
 use mathlib.Core.Logic.{⊎-elim}
 use borrow.Author.Needs.{needs}
-use Rattle.mi.specs.Operands.{addressIn, targetIn, takenBy}
+use Rattle.machine.specs.Operands.{addressIn, targetIn, takenBy}
 use Rattle.operands.proofs.Taking.{reads-value, reads-update}
 use Rattle.operands.proofs.take_memory.Statement.{statement}
 use Rattle.operands.proofs.take_memory.Tie as tie

@@ -1,0 +1,115 @@
+-- Integer results and flags: document 000, 1.1.1 and 1.1.2, 2.5.1 to 2.5.5, and document 01, "One step", for any width of L bytes.
+-- a is the first operand's value S[a1], b the second's, S[a2].
+use Prim.Native.Nat.{ℕ, _+_, _-_, _*_, _/_, _%_, _^_}
+use mathlib.Core.Bool.{Bool, false, not, _&&_}
+use lib.Dec.{ltb, leb, eqb}
+use lib.IntN.{ℤ, pos, negsuc, negℤ, natAbs, subℕ, _+ℤ_, _-ℤ_, _*ℤ_}
+use lib.Signed.{leZ, ltZ, nonNeg, quotZ, shrZ}
+use lib.Bits.{bitAnd, bitOr, bitXor}
+use Rattle.machine.specs.declared.Result.{Result}
+use Rattle.machine.specs.Words.{pick, span}
+use Rattle.machine.specs.State.{flags}
+use Rattle.machine.specs.Alarms.{OrAlarm, got, alarm}
+use Rattle.machine.specs.Code.{Operation, MOVE, CLEAR, MOVEN, MOVEC, MOVEA, CONV, OR, ANDNOT, XOR, ADD, SUB, MULT, DIV, SH, ROT}
+
+-- ---- Numbers
+
+abbrev pub half : ℕ → ℕ
+half L = span L / 2
+
+-- 1.1.1: the natural number of the last L bytes
+abbrev pub natural : ℕ → ℕ → ℕ
+natural L x = x % span L
+
+-- the highest bit, b0, of such a number
+unfoldable pub negative : ℕ → ℕ → Bool
+negative L x = leb (half L) x
+
+-- 1.1.2: the natural number, less 256 ^ L where b0 is set
+unfoldable pub signed : ℕ → ℕ → ℤ
+signed L x = pick (negative L x) (subℕ x (span L)) (pos x)
+
+-- 1.1.2, the range: at least -256 ^ L / 2, at most 256 ^ L / 2 - 1
+unfoldable pub fits : ℕ → ℤ → Bool
+fits L z = leZ (negℤ (pos (half L))) z && ltZ z (pos (half L))
+
+-- the number from 0 to m - 1 that differs from z by a multiple of m
+unfoldable pub modulo : ℕ → ℤ → ℕ
+modulo m (pos n) = n % m
+modulo m (negsuc n) = m - 1 - n % m
+
+-- "Integer results are kept modulo 256^L"
+abbrev pub kept : ℕ → ℤ → ℕ
+kept L z = modulo (span L) z
+
+-- ---- Results with flags
+
+-- "N and Z from the result"
+unfoldable pub resultOf : ℕ → ℕ → Bool → Bool → Result
+resultOf L x v c = record { value = x; flags = flags (negative L x) (eqb x 0) v c }
+
+-- "V = C = 0"
+abbrev pub plain : ℕ → ℕ → Result
+plain L x = resultOf L x false false
+
+-- "V when the exact signed result doesn't fit"
+abbrev pub exact : ℕ → ℤ → Bool → Result
+exact L z c = resultOf L (kept L z) (not (fits L z)) c
+
+-- ---- Operations
+
+unfoldable pub complement : ℕ → ℕ → ℕ
+complement L a = span L - 1 - a
+
+-- C: "unsigned carry"
+unfoldable pub added : ℕ → ℕ → ℕ → Result
+added L a b = exact L (signed L b +ℤ signed L a) (leb (span L) (b + a))
+
+-- C: "or borrow"
+unfoldable pub subtracted : ℕ → ℕ → ℕ → Result
+subtracted L a b = exact L (signed L b -ℤ signed L a) (ltb b a)
+
+unfoldable pub multiplied : ℕ → ℕ → ℕ → Result
+multiplied L a b = exact L (signed L b *ℤ signed L a) false
+
+-- "DIV drops the fraction, and lowest ÷ −1 gives lowest"
+unfoldable pub divided : ℕ → ℕ → ℕ → Result
+divided L a b = exact L (quotZ (signed L b) (signed L a)) false
+
+-- a zero bit from the right each time; "SH left sets V when the result's sign differs from the operand's"
+unfoldable pub shiftedLeft : ℕ → ℕ → Result
+shiftedLeft n b = let x = b * 2 ^ n % span 4 in resultOf 4 x (pick (negative 4 b) (not (negative 4 x)) (negative 4 x)) false
+
+-- b0 from the left each time
+unfoldable pub shiftedRight : ℕ → ℕ → Result
+shiftedRight n b = plain 4 (kept 4 (shrZ (signed 4 b) (2 ^ n)))
+
+-- to the left where the count S[a1] is not negative, else to the right by its size
+unfoldable pub shifted : ℕ → ℕ → Result
+shifted a b = let n = signed 4 a in pick (nonNeg n) (shiftedLeft (natAbs n) b) (shiftedRight (natAbs n) b)
+
+-- S[a1] times to the left, the bit that goes out coming in on the right; 32 times is none, and once to the right is 31 times to the left
+unfoldable pub rotated : ℕ → ℕ → Result
+rotated a b = let n = modulo 32 (signed 4 a) in plain 4 ((b * 2 ^ n + b / 2 ^ (32 - n)) % span 4)
+
+-- 15: "DIV by zero", its argument zero
+unfoldable pub operate : Operation → ℕ → ℕ → ℕ → OrAlarm Result
+operate MOVE L a b = got (plain L a)
+operate CLEAR L a b = got (plain L 0)
+operate MOVEN L a b = got (subtracted L a 0)
+operate MOVEC L a b = got (plain L (complement L a))
+operate MOVEA L a b = got (plain L a)
+operate CONV L a b = got (plain L (kept L (signed 1 (natural 1 a))))
+operate OR L a b = got (plain L (bitOr b a))
+operate ANDNOT L a b = got (plain L (bitAnd b (complement L a)))
+operate XOR L a b = got (plain L (bitXor b a))
+operate ADD L a b = got (added L a b)
+operate SUB L a b = got (subtracted L a b)
+operate MULT L a b = got (multiplied L a b)
+operate DIV L a b = pick (eqb a 0) (alarm 15 0) (got (divided L a b))
+operate SH L a b = got (shifted a b)
+operate ROT L a b = got (rotated a b)
+
+-- "CMP: Z if equal, N if first < second, signed"
+unfoldable pub compared : ℕ → ℕ → ℕ → ℕ
+compared L a b = flags (ltZ (signed L a) (signed L b)) (eqb a b) false false

@@ -1,0 +1,170 @@
+// The MI desk's types. What they mean is defined in specs/, in document 01's order.
+ghost use mathlib.Core.Path.{_≡_};
+ghost use Rattle.machine.specs.Words.{lengthOf};
+ghost use Rattle.machine.specs.Calls.{refusalNumber, answerNumber, stepAnswerNumber};
+
+// Three kinds of number that must not stand for one another.
+
+// An address that a command names: real in kernel mode, looked up in the map in user mode.
+pub struct VirtualAddress(pub u32);
+
+// The place of a byte in memory.
+pub struct RealAddress(pub u32);
+
+// A frame is 512 bytes of memory; frame f starts at 512 * f.
+pub struct FrameNumber(pub u32);
+
+// Why a byte is wanted. Fetch and Read are allowed alike.
+pub enum Access {
+    Fetch,
+    Read,
+    Write,
+}
+
+// The sizes of a value.
+pub enum Size {
+    B,
+    H,
+    W,
+}
+
+// What a command does with an operand: reads its value, uses its address, writes it, or reads and then writes it.
+pub enum Role {
+    Value,
+    Address,
+    Destination,
+    Update,
+}
+
+// Where a command's result goes.
+pub enum Target {
+    Nowhere,
+    Register(u32),
+    Memory(VirtualAddress),
+}
+
+// What an operation gives: a value and the flags that it sets.
+pub struct Result {
+    pub value: u32,
+    pub flags: u32,
+}
+
+// A desk is running, or stopped with a number.
+pub enum Mark {
+    Running,
+    Stopped(u32),
+}
+
+// The state that travels by value beside the lent memory.
+pub struct Desk {
+    pub registers: [u32; 16],
+    pub status: u32,
+    pub pending: u16,
+    // The map's base and its length in entries.
+    pub base: RealAddress,
+    pub entries: u32,
+    // The addresses of the system block and the control block.
+    pub system: RealAddress,
+    pub control: RealAddress,
+    pub mark: Mark,
+}
+
+// Why a call was refused: numbers 1 to 7.
+pub enum Refusal {
+    MemoryLength,
+    SystemBlock,
+    ControlBlock,
+    Map,
+    Status,
+    Level,
+    Stopped,
+}
+
+// Whether a call was carried out.
+pub enum Answer {
+    Accepted,
+    Refused(Refusal),
+}
+
+// What a step came to: refused; a command done; a kernel entry with its cause; a stop with its number.
+pub enum StepAnswer {
+    Refused(Refusal),
+    Done,
+    Entered(u32),
+    Stopped(u32),
+}
+
+// What the call for a fresh desk and a level request hand back.
+pub struct Reply {
+    pub answer: Answer,
+    pub desk: Desk,
+}
+
+// What a step hands back.
+pub struct StepReply {
+    pub answer: StepAnswer,
+    pub desk: Desk,
+}
+
+// What a run hands back: steps counts those that it made.
+pub struct RunReply {
+    pub answer: Answer,
+    pub steps: u64,
+    pub desk: Desk,
+}
+
+impl Size {
+    // L, the number of its bytes.
+    pub fn length(self) -> u32
+        ensures { λ r. ⌜ r ≡ lengthOf self ⌝ }
+    {
+        match self {
+            Size::B => 1,
+            Size::H => 2,
+            Size::W => 4,
+        }
+    }
+}
+
+impl Refusal {
+    // Its number in document 01.
+    pub fn number(self) -> u32
+        ensures { λ r. ⌜ r ≡ refusalNumber self ⌝ }
+    {
+        match self {
+            Refusal::MemoryLength => 1,
+            Refusal::SystemBlock => 2,
+            Refusal::ControlBlock => 3,
+            Refusal::Map => 4,
+            Refusal::Status => 5,
+            Refusal::Level => 6,
+            Refusal::Stopped => 7,
+        }
+    }
+}
+
+impl Answer {
+    // The number of its refusal, or 0.
+    pub fn number(self) -> u32
+        ensures { λ r. ⌜ r ≡ answerNumber self ⌝ }
+    {
+        match self {
+            Answer::Accepted => 0,
+            Answer::Refused(k) => k.number(),
+        }
+    }
+}
+
+impl StepAnswer {
+    // The number of its refusal, its cause or its stop; 0 for a command done. The case tells which: 0 is also a HALT, 1 also a system call.
+    pub fn number(self) -> u32
+        ensures { λ r. ⌜ r ≡ stepAnswerNumber self ⌝ }
+    {
+        match self {
+            StepAnswer::Refused(k) => k.number(),
+            StepAnswer::Done => 0,
+            StepAnswer::Entered(cause) => cause,
+            StepAnswer::Stopped(n) => n,
+        }
+    }
+}
