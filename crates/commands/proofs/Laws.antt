@@ -17,14 +17,14 @@ use Rattle.machine.specs.Map.{Found, View, viewBy, RealWrites, readFrom, readBy
 use Rattle.machine.specs.Code.{Common, result, CMP, PUSHR, POPR, jump, CALL, RET, systemCall, HALT, RESUME, Command, common, userOnly, kernelOnly, Rule, Known, known}
 use Rattle.machine.specs.Integers.{natural, operate}
 use Rattle.machine.specs.Operands.{virtual, past, Operands, operandsFrom, operandsOf}
-use Rattle.machine.specs.Commands.{Done, stored, commonDone, done, knownOr12, allowedInUserMode, allowedInKernelMode, actOf, commandBy, userEffect, userCommand, kernelEffect, kernelCommand}
+use Rattle.machine.specs.Commands.{Done, stored, commonDone, done, knownOr12, allowedInUserMode, allowedInKernelMode, completionOf, commandBy, userEffect, userCommand, kernelEffect, kernelCommand}
 use Rattle.access.specs.declared.Stored.{Stored}
 use Rattle.access.specs.Answers.{storedAs, storeEndOf}
 use Rattle.codes.specs.Rules.{knownRules, forbiddenOf}
-use Rattle.codes.specs.Asked.{given, commonAct, commandAct, knownAct}
-use Rattle.codes.specs.Asked.{askedOf as asked}
+use Rattle.codes.specs.Action.{given, commonAction, commandAction, knownAction}
+use Rattle.codes.specs.Action.{actionOf as asked}
 use Rattle.commands.specs.declared.Out.{Out}
-use Rattle.commands.specs.Ends.{End, alarmed, outAs, afterStore, AfterStore, writtenEnd, doneEnd, userEnd, kernelEnd, execOf, actEnd}
+use Rattle.commands.specs.Ends.{End, alarmed, outAs, afterStore, AfterStore, writtenEnd, doneEnd, userEnd, kernelEnd, execOf, actionEnd}
 use Rattle.commands.proofs.Modes.{forbids, forbidsKnown, forbids-byte}
 
 -- ---- Addresses
@@ -70,14 +70,14 @@ module _ (s : ℕ) (m : Memory) (v : View) where
   kernel-done (alarm n x) = refl
 
   result-end : (size : Size) (o : Operands) (t : OrAlarm Result)
-      → doneEnd s m v (t >>= (λ x. got (stored (lengthOf size) x (o .target) (o .registers)))) ≡ actEnd s m v (o .registers) (o .first) (o .target) (given size t)
-  unfolding actEnd
+      → doneEnd s m v (t >>= (λ x. got (stored (lengthOf size) x (o .target) (o .registers)))) ≡ actionEnd s m v (o .registers) (o .first) (o .target) (given size t)
+  unfolding actionEnd
   result-end size o (got x) = refl
   result-end size o (alarm n x) = refl
 
   common-end : (o : Operands) (c : Common)
-      → doneEnd s m v (commonDone c v (flagsOf s) o) ≡ actEnd s m v (o .registers) (o .first) (o .target) (commonAct c (flagsOf s) (o .first) (o .second))
-  unfolding actEnd commonDone located commit
+      → doneEnd s m v (commonDone c v (flagsOf s) o) ≡ actionEnd s m v (o .registers) (o .first) (o .target) (commonAction c (flagsOf s) (o .first) (o .second))
+  unfolding actionEnd commonDone located commit
   common-end o (result op size) =
       result-end size o (operate op (lengthOf size) (natural (lengthOf size) (o .first)) (natural (lengthOf size) (o .second)))
   common-end o (CMP size) = refl
@@ -91,8 +91,8 @@ module _ (s : ℕ) (m : Memory) (v : View) where
   module _ (r : Registers) (b : ℕ) where
     fetchedEnd : Bool → Option Known → End
     fetchedEnd u k = pick u
-        (userEnd s m v (knownOr12 b k >>= (λ k. allowedInUserMode b (k .command) >>= (λ c. operandsOf v (k .operands) (past 1 r) >>= (λ o. actOf userEffect c v (flagsOf s) o)))))
-        (kernelEnd s m v (knownOr12 b k >>= (λ k. allowedInKernelMode b (k .command) >>= (λ c. operandsOf v (k .operands) (past 1 r) >>= (λ o. actOf kernelEffect c v (flagsOf s) o)))))
+        (userEnd s m v (knownOr12 b k >>= (λ k. allowedInUserMode b (k .command) >>= (λ c. operandsOf v (k .operands) (past 1 r) >>= (λ o. completionOf userEffect c v (flagsOf s) o)))))
+        (kernelEnd s m v (knownOr12 b k >>= (λ k. allowedInKernelMode b (k .command) >>= (λ c. operandsOf v (k .operands) (past 1 r) >>= (λ o. completionOf kernelEffect c v (flagsOf s) o)))))
 
     forbidden-end : (u : Bool) (c : Command) (ks : List Rule) → forbids u c ≡ true → fetchedEnd u (some (record { command = c; operands = ks })) ≡ alarmed 13 b m
     unfolding fetchedEnd knownOr12 allowedInUserMode allowedInKernelMode
@@ -113,8 +113,8 @@ module _ (s : ℕ) (m : Memory) (v : View) where
     alarm-end false (kernelOnly k) ks n x h a = rw a
 
     asked-end : (u : Bool) (c : Command) (ks : List Rule) (o : Operands) → forbids u c ≡ false → operandsOf v ks (past 1 r) ≡ got o
-        → fetchedEnd u (some (record { command = c; operands = ks })) ≡ actEnd s m v (o .registers) (o .first) (o .target) (commandAct c (flagsOf s) (o .first) (o .second))
-    unfolding fetchedEnd knownOr12 allowedInUserMode allowedInKernelMode actOf actEnd userEffect kernelEffect
+        → fetchedEnd u (some (record { command = c; operands = ks })) ≡ actionEnd s m v (o .registers) (o .first) (o .target) (commandAction c (flagsOf s) (o .first) (o .second))
+    unfolding fetchedEnd knownOr12 allowedInUserMode allowedInKernelMode completionOf actionEnd userEffect kernelEffect
     asked-end true (common c) ks o h a = rw a (user-done (commonDone c v (flagsOf s) o) ∙ common-end o c)
     asked-end false (common c) ks o h a = rw a (kernel-done (commonDone c v (flagsOf s) o) ∙ common-end o c)
     asked-end true (userOnly systemCall) ks o h a = rw a
@@ -133,8 +133,8 @@ module _ (s : ℕ) (m : Memory) (v : View) where
     alarm-known u (some k) n x h a = alarm-end u (k .command) (k .operands) n x h a
 
     asked-known : (u : Bool) (k : Option Known) (o : Operands) → forbidsKnown u k ≡ false → operandsOf v (knownRules k) (past 1 r) ≡ got o
-        → fetchedEnd u k ≡ actEnd s m v (o .registers) (o .first) (o .target) (knownAct k b (flagsOf s) (o .first) (o .second))
-    unfolding fetchedEnd knownOr12 actEnd
+        → fetchedEnd u k ≡ actionEnd s m v (o .registers) (o .first) (o .target) (knownAction k b (flagsOf s) (o .first) (o .second))
+    unfolding fetchedEnd knownOr12 actionEnd
     asked-known true none o h a = refl
     asked-known false none o h a = refl
     asked-known u (some k) o h a = asked-end u (k .command) (k .operands) o h a
@@ -162,7 +162,7 @@ module _ (s : ℕ) (base : RealAddress) (entries : ℕ) (r : Registers) (m : Mem
       pub exec-alarm : (n x : ℕ) → alarm n x ≡ operandsOf (viewBy s base entries m) (knownRules (known b)) (past 1 r) → alarmed n x m ≡ execOf s base entries r m
       exec-alarm n x a = sym (fetched ∙ alarm-known s m (viewBy s base entries m) r b (userMode s) (known b) n x (forbids-byte (userMode s) b l ∙ f) (sym a))
 
-      pub exec-asked : (o : Operands) → got o ≡ operandsOf (viewBy s base entries m) (knownRules (known b)) (past 1 r)
-          → actEnd s m (viewBy s base entries m) (o .registers) (o .first) (o .target) (asked b (flagsOf s) (o .first) (o .second)) ≡ execOf s base entries r m
+      pub exec-action : (o : Operands) → got o ≡ operandsOf (viewBy s base entries m) (knownRules (known b)) (past 1 r)
+          → actionEnd s m (viewBy s base entries m) (o .registers) (o .first) (o .target) (asked b (flagsOf s) (o .first) (o .second)) ≡ execOf s base entries r m
       unfolding asked
-      exec-asked o a = sym (fetched ∙ asked-known s m (viewBy s base entries m) r b (userMode s) (known b) o (forbids-byte (userMode s) b l ∙ f) (sym a))
+      exec-action o a = sym (fetched ∙ asked-known s m (viewBy s base entries m) r b (userMode s) (known b) o (forbids-byte (userMode s) b l ∙ f) (sym a))

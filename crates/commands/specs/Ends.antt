@@ -10,12 +10,12 @@ use Rattle.machine.specs.Words.{pick, Memory, lengthOf}
 use Rattle.machine.specs.State.{Registers, reg, userMode, flagsOf, withFlags}
 use Rattle.machine.specs.Alarms.{OrAlarm, got, alarm}
 use Rattle.machine.specs.Map.{View, viewBy, RealWrites, located, commit}
-use Rattle.machine.specs.Commands.{Done, stored, pushed, poppedDone, called, returnedDone, Act, done, modal, SystemCall, userCommand, KernelEffect, kernelCommand}
+use Rattle.machine.specs.Commands.{Done, stored, pushed, poppedDone, called, returnedDone, Completion, done, ofMode, SystemCall, userCommand, KernelEffect, kernelCommand}
 use Rattle.machine.specs.Commands.{halts, resumes}
 use Rattle.access.specs.declared.Stored.{Stored}
 use Rattle.access.specs.Answers.{StoreEnd, wrote, failed, storedAs}
-use Rattle.codes.specs.declared.Asked.{Asked}
-use Rattle.codes.specs.declared.Asked.the-variants as act
+use Rattle.codes.specs.declared.Action.{Action}
+use Rattle.codes.specs.declared.Action.the-variants as action
 use Rattle.commands.specs.declared.Out.{Out}
 use Rattle.commands.specs.declared.Out.the-variants as out
 
@@ -56,15 +56,15 @@ abbrev pub doneEnd : ℕ → Memory → View → OrAlarm Done → End
 doneEnd s m v (got d) = writtenEnd s m d (located v (d .writes))
 doneEnd s m v (alarm n x) = alarmed n x m
 
-abbrev pub userEnd : ℕ → Memory → View → OrAlarm (Act SystemCall) → End
+abbrev pub userEnd : ℕ → Memory → View → OrAlarm (Completion SystemCall) → End
 userEnd s m v (got (done d)) = doneEnd s m v (got d)
-userEnd s m v (got (modal c)) = calls (c .argument) (c .registers) m
+userEnd s m v (got (ofMode c)) = calls (c .argument) (c .registers) m
 userEnd s m v (alarm n x) = alarmed n x m
 
-abbrev pub kernelEnd : ℕ → Memory → View → OrAlarm (Act KernelEffect) → End
+abbrev pub kernelEnd : ℕ → Memory → View → OrAlarm (Completion KernelEffect) → End
 kernelEnd s m v (got (done d)) = doneEnd s m v (got d)
-kernelEnd s m v (got (modal (halts r))) = haltEnd r m
-kernelEnd s m v (got (modal (resumes a))) = resumeEnd a m
+kernelEnd s m v (got (ofMode (halts r))) = haltEnd r m
+kernelEnd s m v (got (ofMode (resumes a))) = resumeEnd a m
 kernelEnd s m v (alarm n x) = alarmed n x m
 
 -- the command at R15, in the mode that the status tells
@@ -76,15 +76,15 @@ execOf s base entries r m =
 
 -- ---- From what its byte asks for, once its operands are taken: x is the first number, t the target
 
-unfoldable pub actEnd : ℕ → Memory → View → Registers → ℕ → Target → Asked → End
-actEnd s m v r x t (act.Give size y) = doneEnd s m v (got (stored (lengthOf size) y t r))
-actEnd s m v r x t (act.Flags f) = went r (withFlags s f) m
-actEnd s m v r x t (act.Jump b) = went (pick b (set r 15 x) r) s m
-actEnd s m v r x t act.Push = doneEnd s m v (got (pushed 15 (reg r 14) r [] (flagsOf s)))
-actEnd s m v r x t act.Pop = doneEnd s m v (poppedDone v r (flagsOf s))
-actEnd s m v r x t act.Call = doneEnd s m v (got (called x r (flagsOf s)))
-actEnd s m v r x t act.Return = doneEnd s m v (returnedDone v r (flagsOf s))
-actEnd s m v r x t act.System = calls x r m
-actEnd s m v r x t act.Halt = haltEnd r m
-actEnd s m v r x t act.Resume = resumeEnd (record { 0 = x }) m
-actEnd s m v r x t (act.Alarm n a) = alarmed n a m
+unfoldable pub actionEnd : ℕ → Memory → View → Registers → ℕ → Target → Action → End
+actionEnd s m v r x t (action.Give size y) = doneEnd s m v (got (stored (lengthOf size) y t r))
+actionEnd s m v r x t (action.Flags f) = went r (withFlags s f) m
+actionEnd s m v r x t (action.Jump b) = went (pick b (set r 15 x) r) s m
+actionEnd s m v r x t action.Push = doneEnd s m v (got (pushed 15 (reg r 14) r [] (flagsOf s)))
+actionEnd s m v r x t action.Pop = doneEnd s m v (poppedDone v r (flagsOf s))
+actionEnd s m v r x t action.Call = doneEnd s m v (got (called x r (flagsOf s)))
+actionEnd s m v r x t action.Return = doneEnd s m v (returnedDone v r (flagsOf s))
+actionEnd s m v r x t action.System = calls x r m
+actionEnd s m v r x t action.Halt = haltEnd r m
+actionEnd s m v r x t action.Resume = resumeEnd (record { 0 = x }) m
+actionEnd s m v r x t (action.Alarm n a) = alarmed n a m

@@ -11,11 +11,11 @@ ghost use Rattle.machine.specs.Commands.{keptRest, stored, pushed, poppedDone, 
 ghost use Rattle.access.specs.Answers.{Fits, storedAs, storeEndOf};
 ghost use Rattle.codes.specs.Rules.{tableOf};
 ghost use Rattle.operands.specs.Answers.{SmallTarget};
-ghost use Rattle.commands.specs.Ends.{outAs, doneEnd, actEnd, execOf, AfterStore};
+ghost use Rattle.commands.specs.Ends.{outAs, doneEnd, actionEnd, execOf, AfterStore};
 use access::CommandByte;
 use access::Got;
 use access::Stored;
-use codes::Asked;
+use codes::Action;
 use machine::RealAddress;
 use machine::Result;
 use machine::Size;
@@ -221,28 +221,28 @@ fn finish(
     entries: u32,
     x: u32,
     target: Target,
-    what: Asked,
+    what: Action,
 ) -> Out
     requires { ⌜ Fits base entries (now mem) × SmallTarget target ⌝ }
-    ensures { λ r. ⌜ outAs r (now (regs .exit)) (now (mem .exit)) ≡ actEnd status (now (mem .entry)) (viewBy status base entries (now (mem .entry))) (now (regs .entry)) x target what ⌝ }
+    ensures { λ r. ⌜ outAs r (now (regs .exit)) (now (mem .exit)) ≡ actionEnd status (now (mem .entry)) (viewBy status base entries (now (mem .entry))) (now (regs .entry)) x target what ⌝ }
 {
     match what {
-        Asked::Give(size, v) => put(mem, regs, status, base, entries, size, v, target),
-        Asked::Flags(f) => Out::Done(with_flags(status, f)),
-        Asked::Jump(taken) => {
+        Action::Give(size, v) => put(mem, regs, status, base, entries, size, v, target),
+        Action::Flags(f) => Out::Done(with_flags(status, f)),
+        Action::Jump(taken) => {
             if taken {
                 regs[15] = x;
             }
             Out::Done(status)
         }
-        Asked::Push => push(mem, regs, status, base, entries),
-        Asked::Pop => pop(mem, regs, status, base, entries),
-        Asked::Call => call(mem, regs, status, base, entries, x),
-        Asked::Return => ret(mem, regs, status, base, entries),
-        Asked::System => Out::System(x),
-        Asked::Halt => Out::Halt,
-        Asked::Resume => Out::Resume(VirtualAddress(x)),
-        Asked::Alarm(n, a) => Out::Alarm(n, a),
+        Action::Push => push(mem, regs, status, base, entries),
+        Action::Pop => pop(mem, regs, status, base, entries),
+        Action::Call => call(mem, regs, status, base, entries, x),
+        Action::Return => ret(mem, regs, status, base, entries),
+        Action::System => Out::System(x),
+        Action::Halt => Out::Halt,
+        Action::Resume => Out::Resume(VirtualAddress(x)),
+        Action::Alarm(n, a) => Out::Alarm(n, a),
     }
 }
 
@@ -274,7 +274,7 @@ pub fn exec(
             match o {
                 Operands::Alarm(n, a) => Out::Alarm(n, a),
                 Operands::Ready(x, y, target) => {
-                    let what = codes::asked_of(b, status % 16, x, y);
+                    let what = codes::action_of(b, status % 16, x, y);
                     finish(mem, regs, status, base, entries, x, target, what)
                 }
             }

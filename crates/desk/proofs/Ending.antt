@@ -10,9 +10,9 @@ use Rattle.machine.specs.Words.{pick, Memory, wordAt}
 use Rattle.machine.specs.State.{Registers, userMode, levelOf, flagsOf, withoutLevel, systemBlockOf, validUserStatus, blockFits, mapFits}
 use Rattle.machine.specs.Alarms.{OrAlarm, got, alarm}
 use Rattle.machine.specs.Map.{View, viewOf, viewBy, RealWrites, located, commit}
-use Rattle.machine.specs.Commands.{Done, Act, done, modal, SystemCall, userCommand, KernelEffect, kernelCommand}
+use Rattle.machine.specs.Commands.{Done, Completion, done, ofMode, SystemCall, userCommand, KernelEffect, kernelCommand}
 use Rattle.machine.specs.Commands.{halts, resumes}
-use Rattle.machine.specs.Steps.{Outcome, stop, resume, Course, enters, completed, due, userWritten, ofUserCommand, interrupted, userCourse, concluded, userStep, kernelWritten, ofKernelCommand, kernelStep, oneStep}
+use Rattle.machine.specs.Steps.{Outcome, stop, resume, Plan, enters, completed, due, userWritten, ofUserCommand, interrupted, userPlan, concluded, userStep, kernelWritten, ofKernelCommand, kernelStep, oneStep}
 use Rattle.machine.specs.Calls.{Stepped}
 use Rattle.machine.proofs.Levels.{due-none, due-pending}
 use Rattle.commands.specs.declared.Out.{Out}
@@ -29,11 +29,11 @@ module _ (d : Desk) (m : Memory) where
   written-end u c (got ws) = refl
   written-end u c (alarm n x) = rw u
 
-  user-end : userMode (d .status) ≡ true → (v : View) (t : OrAlarm (Act SystemCall))
+  user-end : userMode (d .status) ≡ true → (v : View) (t : OrAlarm (Completion SystemCall))
       → enteredBy d m (ofUserCommand (d .registers) (d .status) (d .pending) v t) ≡ concludedEnd d m (userEnd (d .status) m v t)
   unfolding ofUserCommand concludedEnd
   user-end u v (got (done c)) = written-end u c (located v (c .writes))
-  user-end u v (got (modal c)) = refl
+  user-end u v (got (ofMode c)) = refl
   user-end u v (alarm n x) = rw u
 
   kernel-written-end : userMode (d .status) ≡ false → (c : Done) (t : OrAlarm RealWrites) → shown (kernelWritten d c t) m ≡ concludedEnd d m (writtenEnd (d .status) m c t)
@@ -41,16 +41,16 @@ module _ (d : Desk) (m : Memory) where
   kernel-written-end u c (got ws) = refl
   kernel-written-end u c (alarm n x) = rw u
 
-  kernel-end : userMode (d .status) ≡ false → (v : View) (t : OrAlarm (Act KernelEffect)) → shown (ofKernelCommand d m v t) m ≡ concludedEnd d m (kernelEnd (d .status) m v t)
+  kernel-end : userMode (d .status) ≡ false → (v : View) (t : OrAlarm (Completion KernelEffect)) → shown (ofKernelCommand d m v t) m ≡ concludedEnd d m (kernelEnd (d .status) m v t)
   unfolding ofKernelCommand concludedEnd
   kernel-end u v (got (done c)) = kernel-written-end u c (located v (c .writes))
-  kernel-end u v (got (modal (halts r))) = refl
-  kernel-end u v (got (modal (resumes a))) = refl
+  kernel-end u v (got (ofMode (halts r))) = refl
+  kernel-end u v (got (ofMode (resumes a))) = refl
   kernel-end u v (alarm n x) = rw u
 
   -- no interrupt is due
   step-ends : interruptOf (d .status) (d .pending) ≡ 0 → shown (oneStep d m) m ≡ concludedEnd d m (execOf (d .status) (d .base) (d .entries) (d .registers) m)
-  unfolding interruptOf oneStep userStep userCourse interrupted kernelStep execOf
+  unfolding interruptOf oneStep userStep userPlan interrupted kernelStep execOf
   step-ends e = go (userMode (d .status)) refl e
     where
       v : View
@@ -64,14 +64,14 @@ module _ (d : Desk) (m : Memory) where
 
   -- ---- An interrupt is due
 
-  entered : (k : ℕ) (r : Registers) (p : ℕ) (c : Course) → 0 < k → interrupted k r p c ≡ enters (16 + k) r k (withoutLevel p k)
+  entered : (k : ℕ) (r : Registers) (p : ℕ) (c : Plan) → 0 < k → interrupted k r p c ≡ enters (16 + k) r k (withoutLevel p k)
   unfolding interrupted
   entered zero r p c h = absurd (omega arith)
   entered (suc k) r p c h = refl
 
   pub step-enters : (k : ℕ) → k ≡ interruptOf (d .status) (d .pending) → 0 < k
       → (s : Stepped) → s ≡ enteredBy d m (enters (16 + k) (d .registers) k (withoutLevel (d .pending) k)) → s ≡ shown (oneStep d m) m
-  unfolding interruptOf oneStep userStep userCourse
+  unfolding interruptOf oneStep userStep userPlan
   step-enters k e h s g = g ∙ sym (go (userMode (d .status)) e)
     where
       v : View
@@ -111,15 +111,15 @@ written-kept : (s : ℕ) (m : Memory) (c : Done) (t : OrAlarm RealWrites) → Ke
 written-kept s m c (got ws) = tt
 written-kept s m c (alarm n x) = refl
 
-user-kept : (s : ℕ) (m : Memory) (v : View) (t : OrAlarm (Act SystemCall)) → Kept m (userEnd s m v t)
+user-kept : (s : ℕ) (m : Memory) (v : View) (t : OrAlarm (Completion SystemCall)) → Kept m (userEnd s m v t)
 user-kept s m v (got (done c)) = written-kept s m c (located v (c .writes))
-user-kept s m v (got (modal c)) = refl
+user-kept s m v (got (ofMode c)) = refl
 user-kept s m v (alarm n x) = refl
 
-kernel-kept : (s : ℕ) (m : Memory) (v : View) (t : OrAlarm (Act KernelEffect)) → Kept m (kernelEnd s m v t)
+kernel-kept : (s : ℕ) (m : Memory) (v : View) (t : OrAlarm (Completion KernelEffect)) → Kept m (kernelEnd s m v t)
 kernel-kept s m v (got (done c)) = written-kept s m c (located v (c .writes))
-kernel-kept s m v (got (modal (halts r))) = refl
-kernel-kept s m v (got (modal (resumes a))) = refl
+kernel-kept s m v (got (ofMode (halts r))) = refl
+kernel-kept s m v (got (ofMode (resumes a))) = refl
 kernel-kept s m v (alarm n x) = refl
 
 exec-kept : (s : ℕ) (base : RealAddress) (entries : ℕ) (r : Registers) (m : Memory) → Kept m (execOf s base entries r m)

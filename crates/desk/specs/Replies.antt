@@ -9,7 +9,7 @@ use Rattle.machine.specs.declared.RunReply.{RunReply}
 use Rattle.machine.specs.Words.{pick, Memory}
 use Rattle.machine.specs.State.{userMode, levelOf, systemBlockOf, deskWith}
 use Rattle.machine.specs.Map.{realOf, commit}
-use Rattle.machine.specs.Steps.{Outcome, Course, enters, due, concluded, stop, halt, resume}
+use Rattle.machine.specs.Steps.{Outcome, Plan, enters, due, concluded, stop, halt, resume}
 use Rattle.machine.specs.Calls.{Stepped, eventAnswer, Ran}
 use Rattle.commands.specs.Ends.{End, went, calls, haltEnd, resumeEnd, alarmed}
 
@@ -35,7 +35,7 @@ abbrev pub shown : Outcome → Memory → Stepped
 shown o m = stepped (replyOf o) (commit (o .writes) m)
 
 -- a course over memory m: a kernel entry reads the system block
-abbrev pub enteredBy : Desk → Memory → Course → Stepped
+abbrev pub enteredBy : Desk → Memory → Plan → Stepped
 enteredBy d m c = shown (concluded d (systemBlockOf d m) c) m
 
 -- an alarm enters the kernel in user mode and stops the desk in kernel mode

@@ -16,10 +16,10 @@ use Rattle.machine.specs.declared.Refusal.{Refusal}
 use Rattle.machine.specs.declared.Answer.the-variants.{Accepted}
 use Rattle.machine.specs.Words.{pick, Memory, wordAt}
 use Rattle.machine.specs.State.{Registers, allowedLength, userMode, levelOf, flagsOf, withFlags, validStatus, validUserStatus, validKernelStatus, isPending, withoutLevel, systemBlockOf, entryR15, entryStatus, blockFits, isRunning}
-use Rattle.machine.specs.Alarms.{OrAlarm, got, alarm}
+use Rattle.machine.specs.Alarms.{alarmNumber, alarmCause, OrAlarm, got, alarm}
 use Rattle.machine.specs.Map.{View, realOf, viewOf, RealWrites, located, commit}
-use Rattle.machine.specs.Commands.{Done, Act, done, modal, SystemCall, userCommand, KernelEffect, halts, resumes}
-use Rattle.machine.specs.Steps.{Outcome, Course, enters, stop, halt, completed, due, userWritten, ofUserCommand, interrupted, userCourse, enterIf, concluded, userStep, resume, kernelWritten, ofKernelCommand, kernelStep, oneStep}
+use Rattle.machine.specs.Commands.{Done, Completion, done, ofMode, SystemCall, userCommand, KernelEffect, halts, resumes}
+use Rattle.machine.specs.Steps.{Outcome, Plan, enters, stop, halt, completed, due, userWritten, ofUserCommand, interrupted, userPlan, enterIf, concluded, userStep, resume, kernelWritten, ofKernelCommand, kernelStep, oneStep}
 use Rattle.machine.specs.Calls.{passes1, passes2, passes3, passes4, passes5, firstRefused, stepRefusal, unlessRefused, stepOutcome, ran, stepsOf}
 use Rattle.machine.proofs.Widths.{and-true}
 
@@ -154,15 +154,15 @@ module _ (d : Desk) (n : ℕ) (p : Passes d n) where
   written-lasts : (block : Memory) (c : Done) (t : OrAlarm RealWrites) → Lasts n (concluded d block (userWritten (d .registers) (d .status) (d .pending) c t))
   unfolding userWritten
   written-lasts block c (got ws) = unfold concluded in go-lasts (c .registers) (c .flags) ws
-  written-lasts block c (alarm k x) = enter-lasts block k (d .registers) x (d .pending) level-0
+  written-lasts block c (alarm k x) = enter-lasts block (alarmCause k) (d .registers) x (d .pending) level-0
 
-  command-lasts : (block : Memory) (v : View) (t : OrAlarm (Act SystemCall)) → Lasts n (concluded d block (ofUserCommand (d .registers) (d .status) (d .pending) v t))
+  command-lasts : (block : Memory) (v : View) (t : OrAlarm (Completion SystemCall)) → Lasts n (concluded d block (ofUserCommand (d .registers) (d .status) (d .pending) v t))
   unfolding ofUserCommand
   command-lasts block v (got (done c)) = written-lasts block c (located v (c .writes))
-  command-lasts block v (got (modal c)) = enter-lasts block 1 (c .registers) (c .argument) (d .pending) level-0
-  command-lasts block v (alarm k x) = enter-lasts block k (d .registers) x (d .pending) level-0
+  command-lasts block v (got (ofMode c)) = enter-lasts block 1 (c .registers) (c .argument) (d .pending) level-0
+  command-lasts block v (alarm k x) = enter-lasts block (alarmCause k) (d .registers) x (d .pending) level-0
 
-  interrupt-lasts : (block : Memory) (k : ℕ) (c : Course) → Lasts n (concluded d block c) → Lasts n (concluded d block (interrupted k (d .registers) (d .pending) c))
+  interrupt-lasts : (block : Memory) (k : ℕ) (c : Plan) → Lasts n (concluded d block c) → Lasts n (concluded d block (interrupted k (d .registers) (d .pending) c))
   unfolding interrupted
   interrupt-lasts block zero c h = h
   interrupt-lasts block (suc k) c h = enter-lasts block (16 + suc k) (d .registers) (suc k) (withoutLevel (d .pending) (suc k)) (level-0-stays (d .pending) k level-0)
@@ -170,7 +170,7 @@ module _ (d : Desk) (n : ℕ) (p : Passes d n) where
   kernel-written-lasts : (c : Done) (t : OrAlarm RealWrites) → Lasts n (kernelWritten d c t)
   unfolding kernelWritten
   kernel-written-lasts c (got ws) = go-lasts (c .registers) (c .flags) ws
-  kernel-written-lasts c (alarm k x) = stop-lasts k
+  kernel-written-lasts c (alarm k x) = stop-lasts (alarmNumber k)
 
 module _ (d : Desk) (m : Memory) (p : Passes d (length m)) where
   resume-lasts : (a : RealAddress) → Lasts (length m) (resume d m a)
@@ -187,15 +187,15 @@ module _ (d : Desk) (m : Memory) (p : Passes d (length m)) where
       })
       (stop-lasts d (length m) p 14)
 
-  kernel-lasts : (v : View) (t : OrAlarm (Act KernelEffect)) → Lasts (length m) (ofKernelCommand d m v t)
+  kernel-lasts : (v : View) (t : OrAlarm (Completion KernelEffect)) → Lasts (length m) (ofKernelCommand d m v t)
   unfolding ofKernelCommand
   kernel-lasts v (got (done c)) = kernel-written-lasts d (length m) p c (located v (c .writes))
-  kernel-lasts v (got (modal (halts r))) = halt-lasts d (length m) p r
-  kernel-lasts v (got (modal (resumes x))) = resume-lasts (realOf x)
-  kernel-lasts v (alarm k x) = stop-lasts d (length m) p k
+  kernel-lasts v (got (ofMode (halts r))) = halt-lasts d (length m) p r
+  kernel-lasts v (got (ofMode (resumes x))) = resume-lasts (realOf x)
+  kernel-lasts v (alarm k x) = stop-lasts d (length m) p (alarmNumber k)
 
   user-lasts : (v : View) (block : Memory) → Lasts (length m) (userStep d v block)
-  unfolding userStep userCourse
+  unfolding userStep userPlan
   user-lasts v block =
       let r = d .registers in
       let s = d .status in

@@ -20,32 +20,32 @@ pub record Indistinguishable (o : Desk) (m : Memory) (d : Desk) (x y : Memory) :
   pub kept : Kept o d
   pub lengthx : length x ≡ length m
   pub lengthy : length y ≡ length m
-  pub mapx : (a : ℕ) → InMap (o .base) (o .entries) m a → byteAt x a ≡ byteAt m a
-  pub mapy : (a : ℕ) → InMap (o .base) (o .entries) m a → byteAt y a ≡ byteAt m a
-  pub frames : (a : ℕ) → Reached (o .base) (o .entries) m (frameAround a) → byteAt x a ≡ byteAt y a
+  pub mapx : (a : ℕ) → InMap (o .map) m a → byteAt x a ≡ byteAt m a
+  pub mapy : (a : ℕ) → InMap (o .map) m a → byteAt y a ≡ byteAt m a
+  pub frames : (a : ℕ) → Reached (o .map) m (frameAround a) → byteAt x a ≡ byteAt y a
 
 abbrev pub Free : Desk → Memory → ℕ → Type 0
-Free o m a = WritableReached (o .base) (o .entries) m (frameAround a)
+Free o m a = WritableReached (o .map) m (frameAround a)
 
 -- no writable entry names a frame that holds part of the map
 abbrev pub Apart : Desk → Memory → Type 0
-Apart o m = (a : ℕ) → InMap (o .base) (o .entries) m a → Free o m a → ⊥
+Apart o m = (a : ℕ) → InMap (o .map) m a → Free o m a → ⊥
 
 module _ (o : Desk) (m : Memory) (d : Desk) where
-  user-view : (x : Memory) → Kept o d → viewOf d x ≡ mapped (o .base) (o .entries) x
+  user-view : (x : Memory) → Kept o d → viewOf d x ≡ mapped (o .map) x
   unfolding viewBy
-  user-view x k = rw (k .user, k .base, k .entries)
+  user-view x k = rw (k .user, k .map)
 
   pub near-view : (x y : Memory) → Indistinguishable o m d x y → viewOf d x ≡ viewOf d y
   near-view x y h =
-      user-view x (h .kept) ∙ view-same (o .base) (o .entries) m x y (h .lengthx) (h .mapx) (h .lengthy) (h .mapy) (h .frames) ∙ sym (user-view y (h .kept))
+      user-view x (h .kept) ∙ view-same (o .map) m x y (h .lengthx) (h .mapx) (h .lengthy) (h .mapy) (h .frames) ∙ sym (user-view y (h .kept))
 
   pub call-fit : (c : Call) (x y : Memory) → Indistinguishable o m d x y → FitOutcome d (Free o m) (outcomeOf c d x)
   unfolding stepOutcome oneStep
   call-fit step x y h =
       unless-fit d (Free o m) (h .kept .user) (stepRefusal d (length x)) _
       (rw (h .kept .user) (user-step-fit d (Free o m) (h .kept .user) (viewOf d x) (systemBlockOf d x)
-      (rw (user-view x (h .kept)) (located-writable (o .base) (o .entries) m x (h .lengthx) (h .mapx)))))
+      (rw (user-view x (h .kept)) (located-writable (o .map) m x (h .lengthx) (h .mapx)))))
   call-fit (request level) x y h = request-fit d (Free o m) (h .kept .user) level
 
   pub flip : (x y : Memory) → Indistinguishable o m d x y → Indistinguishable o m d y x
@@ -57,9 +57,9 @@ module _ (o : Desk) (m : Memory) (d : Desk) where
       let k = h .kept in
       let j = f .0 in
       let l : length x ≡ length y = omega (arith, h .lengthx, h .lengthy) in
-      let off : (a : ℕ) → InMap (o .base) (o .entries) m a → Each (λ i. a ≢ i) ws = λ a r. each-map ws (λ i w q. apart a r (rw (← q) at w)) (f .1) in
+      let off : (a : ℕ) → InMap (o .map) m a → Each (λ i. a ≢ i) ws = λ a r. each-map ws (λ i w q. apart a r (rw (← q) at w)) (f .1) in
       record {
-        kept = record { user = j .user; base = cc; entries = cc; system = cc; control = cc };
+        kept = record { user = j .user; map = cc; system = cc; control = cc };
         lengthx = commit-length ws x ∙ h .lengthx;
         lengthy = commit-length ws y ∙ h .lengthy;
         mapx = λ a r. commit-other ws x a (off a r) ∙ h .mapx a r;

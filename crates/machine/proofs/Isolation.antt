@@ -85,11 +85,11 @@ module _ (o : Desk) (m : Memory) (apart : Apart o m) where
 pub demand3 : Demand3
 demand3 d m n holds cs =
     let size = holds oneLength in
-    let map : (a : ℕ) → InMap (d .base) (d .entries) n a → byteAt m a ≡ byteAt n a
+    let map : (a : ℕ) → InMap (d .map) n a → byteAt m a ≡ byteAt n a
     = λ a r. holds sameMap a (record { low = r .low; high = r .high; inside = rw size (r .inside) }) in
     let all = all-alike d m (holds mapNotWritable) cs d m n (record {
       near = record {
-        kept = record { user = holds inUserMode; base = refl; entries = refl; system = refl; control = refl };
+        kept = record { user = holds inUserMode; map = refl; system = refl; control = refl };
         lengthx = refl;
         lengthy = sym size;
         mapx = λ a r. refl;
@@ -99,8 +99,8 @@ demand3 d m n holds cs =
       block = holds sameSystemBlock;
     }) in
     record {
-      reach = λ f. (reached-same (d .base) (d .entries) m n (sym size) (λ a r. sym (holds sameMap a r)) f, reached-same (d .base) (d .entries) n m size map f);
-      write = λ f. (writable-same (d .base) (d .entries) m n (sym size) (λ a r. sym (holds sameMap a r)) f, writable-same (d .base) (d .entries) n m size map f);
+      reach = λ f. (reached-same (d .map) m n (sym size) (λ a r. sym (holds sameMap a r)) f, reached-same (d .map) n m size map f);
+      write = λ f. (writable-same (d .map) m n (sym size) (λ a r. sym (holds sameMap a r)) f, writable-same (d .map) n m size map f);
       calls = all;
       ends = ends-alike d m (holds mapNotWritable) 0 cs d d m n all;
     }

@@ -25,4 +25,3 @@ pub mod NearMisses
 -- demand 3
 pub mod Indistinguishable
 pub mod Isolation
-pub mod Premises

@@ -11,14 +11,10 @@ use Rattle.machine.specs.declared.StepAnswer.the-variants as stepAnswer
 use Rattle.machine.specs.Words.{Memory, bytesOf, bytesOfWords}
 use Rattle.machine.specs.State.{Registers, savedBytes, deskWith}
 use Rattle.machine.specs.Calls.{Stepped, stepOf, freshDesk, runOf, runUnless, stepsOf}
-use Rattle.machine.specs.TriedValues.{I, R, memoryWith, kernelDesk, ranOn, registerAfter, flagsAfter}
+use Rattle.machine.specs.TriedValues.{I, A, R, memoryWith, kernelDesk, ranOn, registerAfter, flagsAfter}
 use Rattle.machine.proofs.WholeStep.{wholeStep}
 
 -- ---- Operands
-
--- the address z: form 0
-unfoldable pub A : ℕ → List ℕ
-A z = 0 ∷ 0 ∷ bytesOf 4 z
 
 -- register x as an address, then raised: form 8
 unfoldable pub raising : ℕ → List ℕ
@@ -55,8 +51,7 @@ userDesk entries sp = record {
   registers = userRegisters sp;
   status = 0;
   pending = 0;
-  base = record { 0 = 400 };
-  entries = entries;
+  map = record { base = record { 0 = 400 }; length = entries };
   system = record { 0 = 0 };
   control = record { 0 = 256 };
   mark = Running;

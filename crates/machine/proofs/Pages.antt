@@ -9,6 +9,9 @@ use native.Mathlib.Nat.{add-zero}
 use borrow.Author.Tests.{ltb-true, leb-true, lt-ltb}
 use lib.Dec.{ltb, eqb}
 use lib.ListN.{length}
+use Rattle.machine.specs.declared.Alarm.{Alarm}
+use Rattle.machine.specs.declared.Alarm.the-variants as alarms
+use Rattle.machine.specs.declared.Map.{Map}
 use Rattle.machine.specs.declared.RealAddress.{RealAddress}
 use Rattle.machine.specs.declared.VirtualAddress.{VirtualAddress}
 use Rattle.machine.specs.declared.Access.{Access}
@@ -23,17 +26,17 @@ use Rattle.machine.proofs.Views.{order-got}
 -- ---- An alarm
 
 -- the lookup of address x ends in alarm n
-pub record Alarms (s : ℕ) (base : RealAddress) (entries : ℕ) (m : Memory) (x : VirtualAddress) (w : Access) (n : ℕ) : Type 0 where
+pub record Alarms (s : ℕ) (map : Map) (m : Memory) (x : VirtualAddress) (w : Access) (n : Alarm) : Type 0 where
   pub small : x .0 < 0x1_0000_0000
-  pub miss : viewBy s base entries m x w ≡ alarm n (x .0)
+  pub miss : viewBy s map m x w ≡ alarm n (x .0)
 
-module _ {s : ℕ} {base : RealAddress} {entries : ℕ} {m : Memory} {x : VirtualAddress} {n : ℕ} where
-  pub read-alarm : {w : Access} → Alarms s base entries m x w n → (L acc : ℕ) → 0 < L → readFrom (viewBy s base entries m) w L (x .0) acc ≡ alarm n (x .0)
+module _ {s : ℕ} {map : Map} {m : Memory} {x : VirtualAddress} {n : Alarm} where
+  pub read-alarm : {w : Access} → Alarms s map m x w n → (L acc : ℕ) → 0 < L → readFrom (viewBy s map m) w L (x .0) acc ≡ alarm n (x .0)
   unfolding readFrom
   read-alarm f zero acc p = absurd (omega arith)
   read-alarm f (suc L) acc p = let e : wrap (x .0) ≡ x .0 = omega arith in rw (e, f .miss)
 
-  pub located-alarm : Alarms s base entries m x Write n → (bs : List ℕ) → 0 < length bs → located (viewBy s base entries m) (writesFrom (x .0) bs) ≡ alarm n (x .0)
+  pub located-alarm : Alarms s map m x Write n → (bs : List ℕ) → 0 < length bs → located (viewBy s map m) (writesFrom (x .0) bs) ≡ alarm n (x .0)
   unfolding located writesFrom
   located-alarm f [] p = absurd (omega arith)
   located-alarm f (b ∷ bs) p = let e : wrap (x .0) ≡ x .0 = omega arith in rw (e, f .miss)
@@ -41,31 +44,31 @@ module _ {s : ℕ} {base : RealAddress} {entries : ℕ} {m : Memory} {x : Virtua
 -- ---- A byte that is found, in either mode
 
 module _ (m : Memory) (x : VirtualAddress) (w : Access) (a : RealAddress) where
-  module _ (base : RealAddress) (entries : ℕ) (hit : mapped base entries m x w ≡ got (foundAt m a)) where
-    mapped-tests : (ltb (pageOf x) entries ≡ true) × (present (mapEntry base m (pageOf x)) ≡ true) × (undamaged (length m) (mapEntry base m (pageOf x)) ≡ true) × (allows w (mapEntry base m (pageOf x)) ≡ true) × (foundAt m (inFrame (frameOf (mapEntry base m (pageOf x))) x) ≡ foundAt m a)
+  module _ (map : Map) (hit : mapped map m x w ≡ got (foundAt m a)) where
+    mapped-tests : (ltb (pageOf x) (map .length) ≡ true) × (present (mapEntry map m (pageOf x)) ≡ true) × (undamaged (length m) (mapEntry map m (pageOf x)) ≡ true) × (allows w (mapEntry map m (pageOf x)) ≡ true) × (foundAt m (inFrame (frameOf (mapEntry map m (pageOf x))) x) ≡ foundAt m a)
     unfolding mapped
     mapped-tests = order-got _ _ _ _ _ _ _ hit
 
-    mapped-real : frameStart (frameOf (mapEntry base m (pageOf x))) + x .0 % 512 ≡ a .0
+    mapped-real : frameStart (frameOf (mapEntry map m (pageOf x))) + x .0 % 512 ≡ a .0
     unfolding inFrame
     mapped-real = ap (λ (f : Found). f .real .0) (mapped-tests .4)
 
     mapped-inside : a .0 < length m
     unfolding undamaged
     mapped-inside =
-        let e = mapEntry base m (pageOf x) in
+        let e = mapEntry map m (pageOf x) in
         let s = leb-true (frameStart (frameOf e) + 512) (length m) (and-true (eqb (forbiddenBits e) 0) _ (mapped-tests .2) .1) in
         omega (arith, mapped-real)
 
-    mapped-page : (k : ℕ) → x .0 % 512 + k < 512 → mapped base entries m (record { 0 = x .0 + k }) w ≡ got (foundAt m (record { 0 = a .0 + k }))
+    mapped-page : (k : ℕ) → x .0 % 512 + k < 512 → mapped map m (record { 0 = x .0 + k }) w ≡ got (foundAt m (record { 0 = a .0 + k }))
     unfolding mapped inNumberOrder inFrame
     mapped-page k l =
         let t = mapped-tests in
         let p : (x .0 + k) / 512 ≡ x .0 / 512 = omega arith in
-        let r : frameStart (frameOf (mapEntry base m (pageOf x))) + (x .0 + k) % 512 ≡ a .0 + k = omega (arith, mapped-real) in
+        let r : frameStart (frameOf (mapEntry map m (pageOf x))) + (x .0 + k) % 512 ≡ a .0 + k = omega (arith, mapped-real) in
         rw (p, t .0, t .1, t .2, t .3, r)
 
-  unmapped-tests : (b : Bool) (f g : Found) → pick b (got f) (alarm 8 (x .0)) ≡ got g → (b ≡ true) × (f ≡ g)
+  unmapped-tests : (b : Bool) (f g : Found) → pick b (got f) (alarm alarms.Address (x .0)) ≡ got g → (b ≡ true) × (f ≡ g)
   unmapped-tests true f g h = (refl, cc)
   unmapped-tests false f g h = (cc, cc)
 
@@ -83,46 +86,46 @@ module _ (m : Memory) (x : VirtualAddress) (w : Access) (a : RealAddress) where
         let q : x .0 + k < length m = omega arith in
         rw (lt-ltb (x .0 + k) (length m) q, t .1)
 
-by-mode : (s : ℕ) (base : RealAddress) (entries : ℕ) (m : Memory) (P : View → Type 0) → P (mapped base entries m) → P (unmapped m) → P (viewBy s base entries m)
+by-mode : (s : ℕ) (map : Map) (m : Memory) (P : View → Type 0) → P (mapped map m) → P (unmapped m) → P (viewBy s map m)
 unfolding viewBy
-by-mode s base entries m P f g = go (userMode s)
+by-mode s map m P f g = go (userMode s)
   where
-    go : (u : Bool) → P (pick u (mapped base entries m) (unmapped m))
+    go : (u : Bool) → P (pick u (mapped map m) (unmapped m))
     go true = f
     go false = g
 
-pub found-inside : (s : ℕ) (base : RealAddress) (entries : ℕ) (m : Memory) (x : VirtualAddress) (w : Access) (a : RealAddress) → viewBy s base entries m x w ≡ got (foundAt m a) → a .0 < length m
-found-inside s base entries m x w a =
-    by-mode s base entries m (λ v. v x w ≡ got (foundAt m a) → a .0 < length m)
-    (mapped-inside m x w a base entries)
+pub found-inside : (s : ℕ) (map : Map) (m : Memory) (x : VirtualAddress) (w : Access) (a : RealAddress) → viewBy s map m x w ≡ got (foundAt m a) → a .0 < length m
+found-inside s map m x w a =
+    by-mode s map m (λ v. v x w ≡ got (foundAt m a) → a .0 < length m)
+    (mapped-inside m x w a map)
     (λ h. omega (arith, unmapped-inside m x w a h .0, unmapped-inside m x w a h .1))
 
 -- ---- The rest of its page
 
 -- the lookup of address x finds place a, in a memory of whole frames
-pub record Finds (s : ℕ) (base : RealAddress) (entries : ℕ) (m : Memory) (x : VirtualAddress) (w : Access) (a : RealAddress) : Type 0 where
+pub record Finds (s : ℕ) (map : Map) (m : Memory) (x : VirtualAddress) (w : Access) (a : RealAddress) : Type 0 where
   pub small : x .0 < 0x1_0000_0000
   pub whole : length m % 512 ≡ 0
-  pub hit : viewBy s base entries m x w ≡ got (foundAt m a)
+  pub hit : viewBy s map m x w ≡ got (foundAt m a)
 
-module _ {s : ℕ} {base : RealAddress} {entries : ℕ} {m : Memory} {x : VirtualAddress} {w : Access} {a : RealAddress} (f : Finds s base entries m x w a) where
+module _ {s : ℕ} {map : Map} {m : Memory} {x : VirtualAddress} {w : Access} {a : RealAddress} (f : Finds s map m x w a) where
   -- k bytes further on
-  found-onward : (k : ℕ) → x .0 % 512 + k < 512 → viewBy s base entries m (record { 0 = x .0 + k }) w ≡ got (foundAt m (record { 0 = a .0 + k }))
+  found-onward : (k : ℕ) → x .0 % 512 + k < 512 → viewBy s map m (record { 0 = x .0 + k }) w ≡ got (foundAt m (record { 0 = a .0 + k }))
   found-onward k l =
-      by-mode s base entries m (λ v. v x w ≡ got (foundAt m a) → v (record { 0 = x .0 + k }) w ≡ got (foundAt m (record { 0 = a .0 + k })))
-      (λ h. mapped-page m x w a base entries h k l)
+      by-mode s map m (λ v. v x w ≡ got (foundAt m a) → v (record { 0 = x .0 + k }) w ≡ got (foundAt m (record { 0 = a .0 + k })))
+      (λ h. mapped-page m x w a map h k l)
       (λ h. unmapped-page m x w a h (f .whole) k l)
       (f .hit)
 
-  pub found-page : (k : ℕ) → x .0 % 512 + k < 512 → viewBy s base entries m (record { 0 = wrap (x .0 + k) }) w ≡ got (foundAt m (record { 0 = a .0 + k }))
+  pub found-page : (k : ℕ) → x .0 % 512 + k < 512 → viewBy s map m (record { 0 = wrap (x .0 + k) }) w ≡ got (foundAt m (record { 0 = a .0 + k }))
   found-page k l = let e : wrap (x .0 + k) ≡ x .0 + k = omega arith in rw e (found-onward k l)
 
   pub page-inside : (n : ℕ) → 0 < n → x .0 % 512 + n ≤ 512 → a .0 + n ≤ length m
-  page-inside n p l = let i = found-inside s base entries m (record { 0 = x .0 + (n - 1) }) w (record { 0 = a .0 + (n - 1) }) (found-onward (n - 1) (omega arith)) in omega arith
+  page-inside n p l = let i = found-inside s map m (record { 0 = x .0 + (n - 1) }) w (record { 0 = a .0 + (n - 1) }) (found-onward (n - 1) (omega arith)) in omega arith
 
 -- writes in one page
-module _ {s : ℕ} {base : RealAddress} {entries : ℕ} {m : Memory} {x : VirtualAddress} {a : RealAddress} (f : Finds s base entries m x Write a) where
-  located-from : (bs : List ℕ) (k : ℕ) → x .0 % 512 + k + length bs ≤ 512 → located (viewBy s base entries m) (writesFrom (x .0 + k) bs) ≡ got (realWritesFrom (a .0 + k) bs)
+module _ {s : ℕ} {map : Map} {m : Memory} {x : VirtualAddress} {a : RealAddress} (f : Finds s map m x Write a) where
+  located-from : (bs : List ℕ) (k : ℕ) → x .0 % 512 + k + length bs ≤ 512 → located (viewBy s map m) (writesFrom (x .0 + k) bs) ≡ got (realWritesFrom (a .0 + k) bs)
   unfolding located writesFrom realWritesFrom
   located-from [] k l = refl
   located-from (b ∷ bs) k l =
@@ -130,5 +133,5 @@ module _ {s : ℕ} {base : RealAddress} {entries : ℕ} {m : Memory} {x : Virtua
       let q : suc (a .0 + k) ≡ a .0 + suc k = omega arith in
       rw (found-page f k (omega arith), p, q, located-from bs (suc k) (omega arith))
 
-  pub located-page : (bs : List ℕ) → x .0 % 512 + length bs ≤ 512 → located (viewBy s base entries m) (writesFrom (x .0) bs) ≡ got (realWritesFrom (a .0) bs)
+  pub located-page : (bs : List ℕ) → x .0 % 512 + length bs ≤ 512 → located (viewBy s map m) (writesFrom (x .0) bs) ≡ got (realWritesFrom (a .0) bs)
   located-page bs l = rw (add-zero (x .0), add-zero (a .0)) at (located-from bs 0 (omega arith))

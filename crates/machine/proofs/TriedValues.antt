@@ -1,10 +1,10 @@
 -- The tried values hold: each side computes to the other.
 use mathlib.Core.Path.{refl}
-use Rattle.machine.specs.TriedValues.{I, R, memoryWith, kernelDesk, ranOn, afterPUSHR, afterPOPR, TriedValues}
+use Rattle.machine.specs.TriedValues.{I, A, R, memoryWith, kernelDesk, ranOn, afterPUSHR, afterPOPR, TriedValues}
 use Rattle.machine.proofs.WholeStep.{wholeStep}
 
 pub tried-values : TriedValues
-unfolding wholeStep I R memoryWith kernelDesk ranOn afterPUSHR afterPOPR
+unfolding wholeStep I A R memoryWith kernelDesk ranOn afterPUSHR afterPOPR
 tried-values = record {
   code = refl;
   star1 = refl;

@@ -13,8 +13,8 @@ use Rattle.machine.specs.Words.{Memory}
 use Rattle.machine.specs.State.{Registers, userMode, levelOf, flagsOf, withFlags, validKernelStatus, entryR15, entryStatus, savedBytes}
 use Rattle.machine.specs.Alarms.{OrAlarm, got, alarm}
 use Rattle.machine.specs.Map.{View, VirtualWrites, RealWrites, realWritesFrom, located}
-use Rattle.machine.specs.Commands.{Done, Act, done, modal, SystemCall, userCommand}
-use Rattle.machine.specs.Steps.{Event, quiet, entered, stopped, Outcome, stop, completed, Course, goesOn, enters, due, userWritten, ofUserCommand, interrupted, userCourse, enterIf, concluded, userStep}
+use Rattle.machine.specs.Commands.{Done, Completion, done, ofMode, SystemCall, userCommand}
+use Rattle.machine.specs.Steps.{Event, quiet, entered, stopped, Outcome, stop, completed, Plan, continues, enters, due, userWritten, ofUserCommand, interrupted, userPlan, enterIf, concluded, userStep}
 use Rattle.machine.specs.Calls.{unchanged, unlessRefused, requestRefusal, requestOutcome}
 use Rattle.machine.proofs.Writes.{Each}
 use Rattle.machine.proofs.Blocks.{words-length, registers-length}
@@ -23,8 +23,7 @@ use Rattle.machine.proofs.Views.{EachLocated}
 -- what a quiet call leaves as it is
 pub record Kept (d e : Desk) : Type 0 where
   pub user : userMode (e .status) ≡ true
-  pub base : e .base ≡ d .base
-  pub entries : e .entries ≡ d .entries
+  pub map : e .map ≡ d .map
   pub system : e .system ≡ d .system
   pub control : e .control ≡ d .control
 
@@ -43,32 +42,32 @@ pub length-saved : (r : Registers) (s x : ℕ) → length (savedBytes r s x) ≡
 unfolding savedBytes
 length-saved r s x = simp (words-length, length-append, registers-length)
 
--- ---- Courses
+-- ---- Plans
 
-abbrev FitCourse : (ℕ → Type 0) → Course → Type 0
-FitCourse P (goesOn r s ws) = (s < 0x8000_0000) × Each P ws
-FitCourse P (enters i r x p) = Unit {0}
+abbrev FitPlan : (ℕ → Type 0) → Plan → Type 0
+FitPlan P (continues r s ws) = (s < 0x8000_0000) × Each P ws
+FitPlan P (enters i r x p) = Unit {0}
 
 module _ (P : ℕ → Type 0) (r : Registers) (s p : ℕ) (user : s < 0x8000_0000) where
-  written-fit : (d : Done) (q : OrAlarm RealWrites) → EachLocated P q → FitCourse P (userWritten r s p d q)
+  written-fit : (d : Done) (q : OrAlarm RealWrites) → EachLocated P q → FitPlan P (userWritten r s p d q)
   unfolding userWritten withFlags
   written-fit d (got ws) h = (omega arith, h)
   written-fit d (alarm n x) h = tt
 
-  command-fit : (v : View) (a : OrAlarm (Act SystemCall)) → ((ws : VirtualWrites) → EachLocated P (located v ws)) → FitCourse P (ofUserCommand r s p v a)
+  command-fit : (v : View) (a : OrAlarm (Completion SystemCall)) → ((ws : VirtualWrites) → EachLocated P (located v ws)) → FitPlan P (ofUserCommand r s p v a)
   unfolding ofUserCommand
   command-fit v (got (done d)) h = written-fit d (located v (d .writes)) (h (d .writes))
-  command-fit v (got (modal c)) h = tt
+  command-fit v (got (ofMode c)) h = tt
   command-fit v (alarm n x) h = tt
 
-  interrupt-fit : (k : ℕ) (o : Course) → FitCourse P o → FitCourse P (interrupted k r p o)
+  interrupt-fit : (k : ℕ) (o : Plan) → FitPlan P o → FitPlan P (interrupted k r p o)
   unfolding interrupted
   interrupt-fit zero o h = h
   interrupt-fit (suc k) o h = tt
 
-  course-fit : (v : View) → ((ws : VirtualWrites) → EachLocated P (located v ws)) → FitCourse P (userCourse r s p v)
-  unfolding userCourse
-  course-fit v h = interrupt-fit (due 15 p (levelOf s)) _ (command-fit v (userCommand v r (flagsOf s)) h)
+  plan-fit : (v : View) → ((ws : VirtualWrites) → EachLocated P (located v ws)) → FitPlan P (userPlan r s p v)
+  unfolding userPlan
+  plan-fit v h = interrupt-fit (due 15 p (levelOf s)) _ (command-fit v (userCommand v r (flagsOf s)) h)
 
 -- ---- Calls
 
@@ -78,20 +77,20 @@ module _ (d : Desk) (P : ℕ → Type 0) (user : userMode (d .status) ≡ true) 
   enter-fit false i r x p new s = refl
   enter-fit true i r x p new s = (length-saved r (d .status) x, refl)
 
-  concluded-fit : (block : Memory) (c : Course) → FitCourse P c → FitOutcome d P (concluded d block c)
+  concluded-fit : (block : Memory) (c : Plan) → FitPlan P c → FitOutcome d P (concluded d block c)
   unfolding concluded completed
-  concluded-fit block (goesOn r s ws) h = (record { user = lt-ltb s 0x8000_0000 (h .0); base = refl; entries = refl; system = refl; control = refl }, h .1)
+  concluded-fit block (continues r s ws) h = (record { user = lt-ltb s 0x8000_0000 (h .0); map = refl; system = refl; control = refl }, h .1)
   concluded-fit block (enters i r x p) h = enter-fit (validKernelStatus (entryStatus block i)) i r x p (entryR15 block i) (entryStatus block i)
 
   pub user-step-fit : (v : View) (block : Memory) → ((ws : VirtualWrites) → EachLocated P (located v ws)) → FitOutcome d P (userStep d v block)
   unfolding userStep
-  user-step-fit v block h = concluded-fit block _ (course-fit P (d .registers) (d .status) (d .pending) (ltb-true (d .status) 0x8000_0000 user) v h)
+  user-step-fit v block h = concluded-fit block _ (plan-fit P (d .registers) (d .status) (d .pending) (ltb-true (d .status) 0x8000_0000 user) v h)
 
   pub unless-fit : (a : Answer) (o : Outcome) → FitOutcome d P o → FitOutcome d P (unlessRefused a d o)
   unfolding unlessRefused unchanged
   unless-fit Accepted o h = h
-  unless-fit (Refused k) o h = (record { user = user; base = refl; entries = refl; system = refl; control = refl }, tt)
+  unless-fit (Refused k) o h = (record { user = user; map = refl; system = refl; control = refl }, tt)
 
   pub request-fit : (level : ℕ) → FitOutcome d P (requestOutcome d level)
   unfolding requestOutcome
-  request-fit level = unless-fit (requestRefusal d level) _ (record { user = user; base = refl; entries = refl; system = refl; control = refl }, tt)
+  request-fit level = unless-fit (requestRefusal d level) _ (record { user = user; map = refl; system = refl; control = refl }, tt)

@@ -8,6 +8,7 @@ use borrow.Author.Tests.{ltb-true, leb-true}
 use lib.Dec.{ltb, leb}
 use lib.ListN.{length, take, drop, length-take, length-drop}
 use lib.Seq.{ext-getD, getD-take, getD-drop}
+use Rattle.machine.specs.declared.Map.{Map}
 use Rattle.machine.specs.declared.RealAddress.{RealAddress}
 use Rattle.machine.specs.declared.VirtualAddress.{VirtualAddress}
 use Rattle.machine.specs.declared.FrameNumber.{FrameNumber}
@@ -27,36 +28,36 @@ pick-same : (b : Bool) (u v c : ℕ) → (b ≡ true → u ≡ v) → pick b u c
 pick-same true u v c h = h refl
 pick-same false u v c h = refl
 
-module _ (base : RealAddress) (entries : ℕ) (m x : Memory) (size : length x ≡ length m) (same : (a : ℕ) → InMap base entries m a → byteAt x a ≡ byteAt m a) where
-  pub entry-same : (p : ℕ) → p < entries → mapEntry base x p ≡ mapEntry base m p
+module _ (map : Map) (m x : Memory) (size : length x ≡ length m) (same : (a : ℕ) → InMap map m a → byteAt x a ≡ byteAt m a) where
+  pub entry-same : (p : ℕ) → p < map .length → mapEntry map x p ≡ mapEntry map m p
   unfolding mapEntry wordAt
   entry-same p h =
-      rw size (pick-same (leb (base .0 + 4 * p + 4) (length m)) _ _ 0 (λ t. word (leb-true (base .0 + 4 * p + 4) (length m) t)))
+      rw size (pick-same (leb (map .base .0 + 4 * p + 4) (length m)) _ _ 0 (λ t. word (leb-true (map .base .0 + 4 * p + 4) (length m) t)))
     where
-      byte : base .0 + 4 * p + 4 ≤ length m → (a : ℕ) → base .0 + 4 * p ≤ a → a < base .0 + 4 * p + 4 → byteAt x a ≡ byteAt m a
+      byte : map .base .0 + 4 * p + 4 ≤ length m → (a : ℕ) → map .base .0 + 4 * p ≤ a → a < map .base .0 + 4 * p + 4 → byteAt x a ≡ byteAt m a
       byte k a l u = same a (record { low = omega arith; high = omega arith; inside = omega arith })
 
-      word : base .0 + 4 * p + 4 ≤ length m → wordAt x (base .0 + 4 * p) ≡ wordAt m (base .0 + 4 * p)
+      word : map .base .0 + 4 * p + 4 ≤ length m → wordAt x (map .base .0 + 4 * p) ≡ wordAt m (map .base .0 + 4 * p)
       word k =
-          let a = base .0 + 4 * p in
+          let a = map .base .0 + 4 * p in
           let b = byte k in
           rw (b a (omega arith) (omega arith), b (a + 1) (omega arith) (omega arith), b (a + 2) (omega arith) (omega arith), b (a + 3) (omega arith) (omega arith))
 
 -- the same frames are named
-module _ (base : RealAddress) (entries : ℕ) (m n : Memory) (size : length n ≡ length m) (same : (a : ℕ) → InMap base entries m a → byteAt n a ≡ byteAt m a) where
-  names-same : (p : ℕ) (f : FrameNumber) → Names base entries m p f → Names base entries n p f
+module _ (map : Map) (m n : Memory) (size : length n ≡ length m) (same : (a : ℕ) → InMap map m a → byteAt n a ≡ byteAt m a) where
+  names-same : (p : ℕ) (f : FrameNumber) → Names map m p f → Names map n p f
   names-same p f h =
-      let e = entry-same base entries m n size same p (h .below) in
+      let e = entry-same map m n size same p (h .below) in
       record { below = h .below; there = rw e (h .there); whole = rw (size, e) (h .whole); frame = rw e (h .frame) }
 
-  pub reached-same : (f : FrameNumber) → Reached base entries m f → Reached base entries n f
+  pub reached-same : (f : FrameNumber) → Reached map m f → Reached map n f
   reached-same f r = record { page = r .page; names = names-same (r .page) f (r .names) }
 
-  pub writable-same : (f : FrameNumber) → WritableReached base entries m f → WritableReached base entries n f
+  pub writable-same : (f : FrameNumber) → WritableReached map m f → WritableReached map n f
   writable-same f r = record {
     page = r .page;
     names = names-same (r .page) f (r .names);
-    write = rw (entry-same base entries m n size same (r .page) (r .names .below)) (r .write);
+    write = rw (entry-same map m n size same (r .page) (r .names .below)) (r .write);
   }
 
 -- ---- One view
@@ -73,21 +74,21 @@ frame-of-real : (f : FrameNumber) (x : VirtualAddress) → f ≡ frameAround (in
 unfolding inFrame
 frame-of-real f x = let e : f .0 ≡ (512 * f .0 + x .0 % 512) / 512 = omega arith in ap (λ (k : ℕ). record { 0 = k }) e
 
-module _ (base : RealAddress) (entries : ℕ) (m x y : Memory)
-    (lengthx : length x ≡ length m) (mapx : (a : ℕ) → InMap base entries m a → byteAt x a ≡ byteAt m a)
-    (lengthy : length y ≡ length m) (mapy : (a : ℕ) → InMap base entries m a → byteAt y a ≡ byteAt m a)
-    (frames : (a : ℕ) → Reached base entries m (frameAround a) → byteAt x a ≡ byteAt y a) where
-  pub view-same : mapped base entries x ≡ mapped base entries y
+module _ (map : Map) (m x y : Memory)
+    (lengthx : length x ≡ length m) (mapx : (a : ℕ) → InMap map m a → byteAt x a ≡ byteAt m a)
+    (lengthy : length y ≡ length m) (mapy : (a : ℕ) → InMap map m a → byteAt y a ≡ byteAt m a)
+    (frames : (a : ℕ) → Reached map m (frameAround a) → byteAt x a ≡ byteAt y a) where
+  pub view-same : mapped map x ≡ mapped map y
   unfolding mapped inNumberOrder
-  view-same = fun-ext λ z. fun-ext λ w. go z w (ltb (pageOf z) entries) refl
+  view-same = fun-ext λ z. fun-ext λ w. go z w (ltb (pageOf z) (map .length)) refl
     where
-      go : (z : VirtualAddress) (w : Access) (b : Bool) → ltb (pageOf z) entries ≡ b
-          → inNumberOrder b (present (mapEntry base x (pageOf z))) (undamaged (length x) (mapEntry base x (pageOf z))) (allows w (mapEntry base x (pageOf z))) z (foundAt x (inFrame (frameOf (mapEntry base x (pageOf z))) z))
-          ≡ inNumberOrder b (present (mapEntry base y (pageOf z))) (undamaged (length y) (mapEntry base y (pageOf z))) (allows w (mapEntry base y (pageOf z))) z (foundAt y (inFrame (frameOf (mapEntry base y (pageOf z))) z))
+      go : (z : VirtualAddress) (w : Access) (b : Bool) → ltb (pageOf z) (map .length) ≡ b
+          → inNumberOrder b (present (mapEntry map x (pageOf z))) (undamaged (length x) (mapEntry map x (pageOf z))) (allows w (mapEntry map x (pageOf z))) z (foundAt x (inFrame (frameOf (mapEntry map x (pageOf z))) z))
+          ≡ inNumberOrder b (present (mapEntry map y (pageOf z))) (undamaged (length y) (mapEntry map y (pageOf z))) (allows w (mapEntry map y (pageOf z))) z (foundAt y (inFrame (frameOf (mapEntry map y (pageOf z))) z))
       go z w false q = refl
       go z w true q =
-          let h = ltb-true (pageOf z) entries q in
-          rw (entry-same base entries m x lengthx mapx (pageOf z) h, entry-same base entries m y lengthy mapy (pageOf z) h, lengthx, lengthy)
+          let h = ltb-true (pageOf z) (map .length) q in
+          rw (entry-same map m x lengthx mapx (pageOf z) h, entry-same map m y lengthy mapy (pageOf z) h, lengthx, lengthy)
           (order-same _ _ _ z _ x y λ t s. frames _ (record { page = pageOf z; names = record { below = h; there = t; whole = s; frame = frame-of-real _ z } }))
 
 -- ---- The system block
@@ -126,20 +127,20 @@ module _ (P : ℕ → Type 0) where
   join-each (alarm n x) b r p h = tt
   join-each (got f) b r p h = add-each f b r (p f refl) h
 
-module _ (base : RealAddress) (entries : ℕ) (m x : Memory) (lengthx : length x ≡ length m) (mapx : (a : ℕ) → InMap base entries m a → byteAt x a ≡ byteAt m a) where
-  found-writable : (z : VirtualAddress) (f : Found) → mapped base entries x z Write ≡ got f → WritableReached base entries m (frameAround (f .real .0))
+module _ (map : Map) (m x : Memory) (lengthx : length x ≡ length m) (mapx : (a : ℕ) → InMap map m a → byteAt x a ≡ byteAt m a) where
+  found-writable : (z : VirtualAddress) (f : Found) → mapped map x z Write ≡ got f → WritableReached map m (frameAround (f .real .0))
   unfolding mapped allows
   found-writable z f h =
       let g = order-got _ _ _ _ _ _ _ h in
-      let below = ltb-true (pageOf z) entries (g .0) in
-      let e = entry-same base entries m x lengthx mapx (pageOf z) below in
+      let below = ltb-true (pageOf z) (map .length) (g .0) in
+      let e = entry-same map m x lengthx mapx (pageOf z) below in
       record {
         page = pageOf z;
         names = record { below = below; there = rw e at (g .1); whole = rw (lengthx, e) at (g .2); frame = frame-of-real _ z ∙ ap (λ (k : Found). frameAround (k .real .0)) (rw e at (g .4)) };
         write = rw e at (g .3);
       }
 
-  pub located-writable : (ws : VirtualWrites) → EachLocated (λ a. WritableReached base entries m (frameAround a)) (located (mapped base entries x) ws)
+  pub located-writable : (ws : VirtualWrites) → EachLocated (λ a. WritableReached map m (frameAround a)) (located (mapped map x) ws)
   unfolding located
   located-writable [] = tt
-  located-writable (w ∷ ws) = join-each (λ a. WritableReached base entries m (frameAround a)) (mapped base entries x (w .0) Write) (w .1) (located (mapped base entries x) ws) (found-writable (w .0)) (located-writable ws)
+  located-writable (w ∷ ws) = join-each (λ a. WritableReached map m (frameAround a)) (mapped map x (w .0) Write) (w .1) (located (mapped map x) ws) (found-writable (w .0)) (located-writable ws)

@@ -6,10 +6,10 @@ use Rattle.machine.specs.Map.{mapEntry, present, writable, frameOf, unda
 use Rattle.machine.specs.Code.{table, knownIn, known}
 use Rattle.machine.specs.Operands.{fieldsAt, keepsRules, byForm, operandAt, valueIn, addressIn, targetIn, takenBy, withTaken, operandsFrom}
 use Rattle.machine.specs.Integers.{negative, signed, fits, modulo, resultOf, complement, added, subtracted, multiplied, divided, shiftedLeft, shiftedRight, shifted, rotated, operate, compared}
-use Rattle.machine.specs.Commands.{keptRest, stored, pushed, popped, called, returned, jumps, commonDone, knownOr12, allowedInUserMode, allowedInKernelMode, actOf, commandBy, userEffect, userCommand, kernelEffect, kernelCommand}
-use Rattle.machine.specs.Steps.{stop, halt, completed, due, userWritten, ofUserCommand, interrupted, userCourse, enterIf, concluded, userStep, resume, kernelWritten, ofKernelCommand, kernelStep, oneStep}
+use Rattle.machine.specs.Commands.{keptRest, stored, pushed, popped, called, returned, jumps, commonDone, knownOr12, allowedInUserMode, allowedInKernelMode, completionOf, commandBy, userEffect, userCommand, kernelEffect, kernelCommand}
+use Rattle.machine.specs.Steps.{stop, halt, completed, due, userWritten, ofUserCommand, interrupted, userPlan, enterIf, concluded, userStep, resume, kernelWritten, ofKernelCommand, kernelStep, oneStep}
 use Rattle.machine.specs.Calls.{passes5, firstRefused, stepRefusal, unchanged, unlessRefused, stepOutcome, Stepped, stepOf}
 
 unfoldable pub wholeStep : Desk → Memory → Stepped
-unfolding bytesOf bytesOfWords wordAt wordsAt allowedLength withFlags validStatus validUserStatus validKernelStatus isPending withLevel withoutLevel systemBlockOf registersFrom savedBytes blockFits mapEntry present writable frameOf undamaged inFrame allows inNumberOrder mapped unmapped viewBy readFrom writesFrom realWritesFrom located commit table knownIn known fieldsAt keepsRules byForm operandAt valueIn addressIn targetIn takenBy withTaken operandsFrom negative signed fits modulo resultOf complement added subtracted multiplied divided shiftedLeft shiftedRight shifted rotated operate compared keptRest stored pushed popped called returned jumps commonDone knownOr12 allowedInUserMode allowedInKernelMode actOf commandBy userEffect userCommand kernelEffect kernelCommand stop halt completed due userWritten ofUserCommand interrupted userCourse enterIf concluded userStep resume kernelWritten ofKernelCommand kernelStep oneStep passes5 firstRefused stepRefusal unchanged unlessRefused stepOutcome stepOf
+unfolding bytesOf bytesOfWords wordAt wordsAt allowedLength withFlags validStatus validUserStatus validKernelStatus isPending withLevel withoutLevel systemBlockOf registersFrom savedBytes blockFits mapEntry present writable frameOf undamaged inFrame allows inNumberOrder mapped unmapped viewBy readFrom writesFrom realWritesFrom located commit table knownIn known fieldsAt keepsRules byForm operandAt valueIn addressIn targetIn takenBy withTaken operandsFrom negative signed fits modulo resultOf complement added subtracted multiplied divided shiftedLeft shiftedRight shifted rotated operate compared keptRest stored pushed popped called returned jumps commonDone knownOr12 allowedInUserMode allowedInKernelMode completionOf commandBy userEffect userCommand kernelEffect kernelCommand stop halt completed due userWritten ofUserCommand interrupted userPlan enterIf concluded userStep resume kernelWritten ofKernelCommand kernelStep oneStep passes5 firstRefused stepRefusal unchanged unlessRefused stepOutcome stepOf
 wholeStep d m = stepOf d m

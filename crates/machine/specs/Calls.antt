@@ -6,6 +6,7 @@ use lib.Dec.{leb}
 use lib.ListN.{length, replicate, set}
 use Rattle.machine.specs.declared.VirtualAddress.{VirtualAddress}
 use Rattle.machine.specs.declared.RealAddress.{RealAddress}
+use Rattle.machine.specs.declared.Map.{Map}
 use Rattle.machine.specs.declared.Mark.the-variants.{Running, Stopped}
 use Rattle.machine.specs.declared.Desk.{Desk}
 use Rattle.machine.specs.declared.Refusal.{Refusal}
@@ -50,7 +51,7 @@ abbrev pub passes3 : RealAddress → ℕ → Bool
 passes3 control n = blockFits control controlBlockBytes n
 
 abbrev pub passes4 : Desk → ℕ → Bool
-passes4 d n = mapFits (d .base) (d .entries) n
+passes4 d n = mapFits (d .map) n
 
 unfoldable pub passes5 : Desk → Bool
 passes5 d = validStatus (d .status) && not (isPending (d .pending) 0)
@@ -63,32 +64,34 @@ unfoldable pub firstRefused : List (Bool × Refusal) → Answer
 firstRefused [] = Accepted
 firstRefused (t ∷ ts) = pick (t .0) (firstRefused ts) (Refused (t .1))
 
+-- "no map": an empty one at 0
+abbrev pub noMap : Map
+noMap = record { base = record { 0 = 0 }; length = 0 }
+
 -- ---- A fresh desk: "zero registers but a given R15, kernel mode, level 0, no map"; it "checks 1 to 3"
 
 unfoldable pub freshRefusal : ℕ → RealAddress → RealAddress → Answer
 freshRefusal n system control = firstRefused
     ((passes1 n, refusal.MemoryLength) ∷ (passes2 system n, refusal.SystemBlock) ∷ (passes3 control n, refusal.ControlBlock) ∷ [])
 
-unfoldable pub freshDesk : RealAddress → RealAddress → VirtualAddress → Desk
+abbrev pub freshDesk : RealAddress → RealAddress → VirtualAddress → Desk
 freshDesk system control start = record {
   registers = set (replicate 16 0) 15 (start .0);
   status = 0x8000_0000;
   pending = 0;
-  base = record { 0 = 0 };
-  entries = 0;
+  map = noMap;
   system = system;
   control = control;
   mark = Running;
 }
 
 -- "refusing, returns an all-zero desk stopped with that number"
-unfoldable pub zeroDesk : ℕ → Desk
+abbrev pub zeroDesk : ℕ → Desk
 zeroDesk k = record {
   registers = replicate 16 0;
   status = 0;
   pending = 0;
-  base = record { 0 = 0 };
-  entries = 0;
+  map = noMap;
   system = record { 0 = 0 };
   control = record { 0 = 0 };
   mark = Stopped k;

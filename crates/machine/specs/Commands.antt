@@ -8,6 +8,7 @@ use lib.Dec.{eqb}
 use lib.ListN.{set}
 use Rattle.machine.specs.declared.VirtualAddress.{VirtualAddress}
 use Rattle.machine.specs.declared.Access.the-variants.{Fetch, Read}
+use Rattle.machine.specs.declared.Alarm.the-variants as alarms
 use Rattle.machine.specs.declared.Target.{Target}
 use Rattle.machine.specs.declared.Target.the-variants.{Nowhere, Register, Memory}
 use Rattle.machine.specs.declared.Result.{Result}
@@ -106,7 +107,7 @@ commonDone RET v f o = returnedDone v (o .registers) f
 
 -- 12: "the command byte is unknown"; its argument is the command byte
 unfoldable pub knownOr12 : ℕ → Option Known → OrAlarm Known
-knownOr12 b none = alarm 12 b
+knownOr12 b none = alarm alarms.Command b
 knownOr12 b (some k) = got k
 
 -- a command that a mode allows: one of both modes, or one of its own, S
@@ -118,32 +119,32 @@ pub data Allowed (S : Type 0) : Type 0 where
 unfoldable pub allowedInUserMode : ℕ → Command → OrAlarm (Allowed UserOnly)
 allowedInUserMode b (common c) = got (both c)
 allowedInUserMode b (userOnly s) = got (only s)
-allowedInUserMode b (kernelOnly s) = alarm 13 b
+allowedInUserMode b (kernelOnly s) = alarm alarms.Mode b
 
 unfoldable pub allowedInKernelMode : ℕ → Command → OrAlarm (Allowed KernelOnly)
 allowedInKernelMode b (common c) = got (both c)
-allowedInKernelMode b (userOnly s) = alarm 13 b
+allowedInKernelMode b (userOnly s) = alarm alarms.Mode b
 allowedInKernelMode b (kernelOnly s) = got (only s)
 
 -- what it comes to: it is done, or does what only this mode's commands do, E
-pub data Act (E : Type 0) : Type 0 where
-  done : Done → Act E
-  modal : E → Act E
+pub data Completion (E : Type 0) : Type 0 where
+  done : Done → Completion E
+  ofMode : E → Completion E
 
-unfoldable pub actOf : {S E : Type 0} → (S → Operands → E) → Allowed S → View → ℕ → Operands → OrAlarm (Act E)
-actOf effect (both c) v f o = do
+unfoldable pub completionOf : {S E : Type 0} → (S → Operands → E) → Allowed S → View → ℕ → Operands → OrAlarm (Completion E)
+completionOf effect (both c) v f o = do
   d ← commonDone c v f o
   got (done d)
-actOf effect (only s) v f o = got (modal (effect s o))
+completionOf effect (only s) v f o = got (ofMode (effect s o))
 
 -- the order inside a command
-unfoldable pub commandBy : {S E : Type 0} → (ℕ → Command → OrAlarm (Allowed S)) → (S → Operands → E) → View → Registers → ℕ → OrAlarm (Act E)
+unfoldable pub commandBy : {S E : Type 0} → (ℕ → Command → OrAlarm (Allowed S)) → (S → Operands → E) → View → Registers → ℕ → OrAlarm (Completion E)
 commandBy mode effect v r f = do
   b ← readBytes v Fetch 1 (virtual (reg r 15))
   k ← knownOr12 b (known b)
   c ← mode b (k .command)
   o ← operandsOf v (k .operands) (past 1 r)
-  actOf effect c v f o
+  completionOf effect c v f o
 
 -- a system call: its argument, and the registers to save
 pub record SystemCall : Type 0 where
@@ -153,7 +154,7 @@ pub record SystemCall : Type 0 where
 unfoldable pub userEffect : UserOnly → Operands → SystemCall
 userEffect systemCall o = record { argument = o .first; registers = o .registers }
 
-unfoldable pub userCommand : View → Registers → ℕ → OrAlarm (Act SystemCall)
+unfoldable pub userCommand : View → Registers → ℕ → OrAlarm (Completion SystemCall)
 userCommand v r f = commandBy allowedInUserMode userEffect v r f
 
 -- HALT ends with R15 past it; RESUME names a control block by its address
@@ -165,5 +166,5 @@ unfoldable pub kernelEffect : KernelOnly → Operands → KernelEffect
 kernelEffect HALT o = halts (o .registers)
 kernelEffect RESUME o = resumes (record { 0 = o .first })
 
-unfoldable pub kernelCommand : View → Registers → ℕ → OrAlarm (Act KernelEffect)
+unfoldable pub kernelCommand : View → Registers → ℕ → OrAlarm (Completion KernelEffect)
 kernelCommand v r f = commandBy allowedInKernelMode kernelEffect v r f

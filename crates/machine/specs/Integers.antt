@@ -6,6 +6,7 @@ use lib.Dec.{ltb, leb, eqb}
 use lib.IntN.{ℤ, pos, negsuc, negℤ, natAbs, subℕ, _+ℤ_, _-ℤ_, _*ℤ_}
 use lib.Signed.{leZ, ltZ, nonNeg, quotZ, shrZ}
 use lib.Bits.{bitAnd, bitOr, bitXor}
+use Rattle.machine.specs.declared.Alarm.the-variants as alarms
 use Rattle.machine.specs.declared.Result.{Result}
 use Rattle.machine.specs.Words.{pick, span}
 use Rattle.machine.specs.State.{flags}
@@ -106,7 +107,7 @@ operate XOR L a b = got (plain L (bitXor b a))
 operate ADD L a b = got (added L a b)
 operate SUB L a b = got (subtracted L a b)
 operate MULT L a b = got (multiplied L a b)
-operate DIV L a b = pick (eqb a 0) (alarm 15 0) (got (divided L a b))
+operate DIV L a b = pick (eqb a 0) (alarm alarms.Divide 0) (got (divided L a b))
 operate SH L a b = got (shifted a b)
 operate ROT L a b = got (rotated a b)
 

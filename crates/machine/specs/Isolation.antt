@@ -13,7 +13,7 @@ use Rattle.machine.specs.declared.Desk.{Desk}
 use Rattle.machine.specs.declared.Answer.{Answer}
 use Rattle.machine.specs.declared.FrameNumber.{FrameNumber}
 use Rattle.machine.specs.Words.{Memory, byteAt}
-use Rattle.machine.specs.State.{userMode, frameAround, systemBlockBytes}
+use Rattle.machine.specs.State.{userMode, frameAround, systemBlockBytes, savedBlockBytes}
 use Rattle.machine.specs.Map.{Reached, WritableReached, InMap, commit}
 use Rattle.machine.specs.Steps.{Event, quiet, entered, stopped, Outcome}
 use Rattle.machine.specs.Calls.{stepRefusal, stepOutcome, requestRefusal, requestOutcome}
@@ -59,13 +59,13 @@ Holds inUserMode d m n = userMode (d .status) ≡ true
 -- "Let the memories have one length"
 Holds oneLength d m n = length m ≡ length n
 -- "and agree on the map,"
-Holds sameMap d m n = (a : ℕ) → InMap (d .base) (d .entries) m a → byteAt m a ≡ byteAt n a
+Holds sameMap d m n = (a : ℕ) → InMap (d .map) m a → byteAt m a ≡ byteAt n a
 -- "the system block"
 Holds sameSystemBlock d m n = (a : ℕ) → InSystemBlock d a → byteAt m a ≡ byteAt n a
 -- "and each frame the map reaches,"
-Holds sameReachedFrames d m n = (a : ℕ) → Reached (d .base) (d .entries) m (frameAround a) → byteAt m a ≡ byteAt n a
+Holds sameReachedFrames d m n = (a : ℕ) → Reached (d .map) m (frameAround a) → byteAt m a ≡ byteAt n a
 -- "and let no writable map entry name a frame holding part of the map"
-Holds mapNotWritable d m n = (a : ℕ) → InMap (d .base) (d .entries) m a → WritableReached (d .base) (d .entries) m (frameAround a) → ⊥
+Holds mapNotWritable d m n = (a : ℕ) → InMap (d .map) m a → WritableReached (d .map) m (frameAround a) → ⊥
 
 -- ---- The conclusions; o and m are desk and memory before the first call
 
@@ -73,8 +73,8 @@ Holds mapNotWritable d m n = (a : ℕ) → InMap (d .base) (d .entries) m a → 
 -- its 72 saved bytes, a stop none"
 abbrev pub Changed : Desk → Memory → Event → Memory → Memory → Type 0
 Changed o m quiet x y =
-    (length y ≡ length x) × ((a : ℕ) → (WritableReached (o .base) (o .entries) m (frameAround a) → ⊥) → byteAt y a ≡ byteAt x a)
-Changed o m (entered i saved) x y = (length saved ≡ 72) × (y ≡ sets x (o .control .0) saved)
+    (length y ≡ length x) × ((a : ℕ) → (WritableReached (o .map) m (frameAround a) → ⊥) → byteAt y a ≡ byteAt x a)
+Changed o m (entered i saved) x y = (length saved ≡ savedBlockBytes) × (y ≡ sets x (o .control .0) saved)
 Changed o m (stopped n) x y = y ≡ x
 
 -- one call, given alike to desk d over memory x and to desk e over memory y
@@ -84,7 +84,7 @@ pub record Alike (o : Desk) (m : Memory) (c : Call) (d : Desk) (x : Memory) (e :
   -- "and show equal registers, flags": "the whole state that travels by value (status, pending set and mark too)"
   pub desks : nextDesk c d x ≡ nextDesk c e y
   -- "and reached bytes after each of them"
-  pub reached : (a : ℕ) → Reached (o .base) (o .entries) m (frameAround a) → byteAt (nextMemory c d x) a ≡ byteAt (nextMemory c e y) a
+  pub reached : (a : ℕ) → Reached (o .map) m (frameAround a) → byteAt (nextMemory c d x) a ≡ byteAt (nextMemory c e y) a
   -- "an entry with the same cause and saved bytes, a stop with the same number"
   pub events : eventOf c d x ≡ eventOf c e y
   pub changes : Changed o m (eventOf c d x) x (nextMemory c d x)
@@ -108,8 +108,8 @@ endOf i (c ∷ cs) d m = endAt i (eventOf c d m) (endOf (suc i) cs (nextDesk c d
 
 pub record Isolated (d : Desk) (m n : Memory) (cs : List Call) : Type 0 where
   -- the words mean the same frames in both memories
-  pub reach : (f : FrameNumber) → Reached (d .base) (d .entries) m f ↔ Reached (d .base) (d .entries) n f
-  pub write : (f : FrameNumber) → WritableReached (d .base) (d .entries) m f ↔ WritableReached (d .base) (d .entries) n f
+  pub reach : (f : FrameNumber) → Reached (d .map) m f ↔ Reached (d .map) n f
+  pub write : (f : FrameNumber) → WritableReached (d .map) m f ↔ WritableReached (d .map) n f
   pub calls : AllAlike d m cs d m d n
   -- "If one comes, it comes at the same place in the list on both"
   pub ends : endOf 0 cs d m ≡ endOf 0 cs d n

@@ -22,7 +22,5 @@ pub mod Steps
 pub mod Calls
 -- demand 3
 pub mod Isolation
--- demand 3's premises: met, and each needed
-pub mod Premises
 -- Tried values, marked *
 pub mod TriedValues

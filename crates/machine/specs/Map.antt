@@ -10,6 +10,8 @@ use Rattle.machine.specs.declared.RealAddress.{RealAddress}
 use Rattle.machine.specs.declared.FrameNumber.{FrameNumber}
 use Rattle.machine.specs.declared.Access.{Access}
 use Rattle.machine.specs.declared.Access.the-variants.{Fetch, Read, Write}
+use Rattle.machine.specs.declared.Alarm.the-variants as alarms
+use Rattle.machine.specs.declared.Map.{Map}
 use Rattle.machine.specs.declared.Desk.{Desk}
 use Rattle.machine.specs.Words.{pick, Memory, byteAt, wordAt, wrap}
 use Rattle.machine.specs.Alarms.{OrAlarm, got, alarm, _>>=_}
@@ -22,8 +24,8 @@ abbrev pub pageOf : VirtualAddress → ℕ
 pageOf x = x .0 / 512
 
 -- "the four-byte entry at map base + 4 × p"; an entry that is not wholly inside the memory counts for nothing: it reads as absent
-unfoldable pub mapEntry : RealAddress → Memory → ℕ → ℕ
-mapEntry base m p = pick (leb (base .0 + 4 * p + 4) (length m)) (wordAt m (base .0 + 4 * p)) 0
+unfoldable pub mapEntry : Map → Memory → ℕ → ℕ
+mapEntry map m p = pick (leb (map .base .0 + 4 * p + 4) (length m)) (wordAt m (map .base .0 + 4 * p)) 0
 
 -- "Its highest bit (value 80000000h) means present"
 unfoldable pub present : ℕ → Bool
@@ -68,10 +70,10 @@ allows Write e = writable e
 -- "For one byte 8 to 11 are tried in number order"; their argument is "the byte's address". The tests: the page is below the map length, the entry present,
 -- undamaged, and open to the access
 unfoldable pub inNumberOrder : Bool → Bool → Bool → Bool → VirtualAddress → Found → OrAlarm Found
-inNumberOrder false there whole allowed x f = alarm 8 (x .0)
-inNumberOrder true false whole allowed x f = alarm 9 (x .0)
-inNumberOrder true true false allowed x f = alarm 10 (x .0)
-inNumberOrder true true true false x f = alarm 11 (x .0)
+inNumberOrder false there whole allowed x f = alarm alarms.Address (x .0)
+inNumberOrder true false whole allowed x f = alarm alarms.Absent (x .0)
+inNumberOrder true true false allowed x f = alarm alarms.MapEntry (x .0)
+inNumberOrder true true true false x f = alarm alarms.ReadOnly (x .0)
 inNumberOrder true true true true x f = got f
 
 -- what a command sees of the memory: for each address and reason the byte, or an alarm
@@ -79,9 +81,9 @@ abbrev pub View : Type 0
 View = VirtualAddress → Access → OrAlarm Found
 
 -- user mode
-unfoldable pub mapped : RealAddress → ℕ → Memory → View
-mapped base entries m x w = let e = mapEntry base m (pageOf x) in
-    inNumberOrder (ltb (pageOf x) entries) (present e) (undamaged (length m) e) (allows w e) x (foundAt m (inFrame (frameOf e) x))
+unfoldable pub mapped : Map → Memory → View
+mapped map m x w = let e = mapEntry map m (pageOf x) in
+    inNumberOrder (ltb (pageOf x) (map .length)) (present e) (undamaged (length m) e) (allows w e) x (foundAt m (inFrame (frameOf e) x))
 
 -- "In kernel mode an address is real"
 abbrev pub realOf : VirtualAddress → RealAddress
@@ -89,14 +91,14 @@ realOf x = record { 0 = x .0 }
 
 -- kernel mode
 unfoldable pub unmapped : Memory → View
-unmapped m x w = pick (ltb (x .0) (length m)) (got (foundAt m (realOf x))) (alarm 8 (x .0))
+unmapped m x w = pick (ltb (x .0) (length m)) (got (foundAt m (realOf x))) (alarm alarms.Address (x .0))
 
--- by status, map base and map length
-unfoldable pub viewBy : ℕ → RealAddress → ℕ → Memory → View
-viewBy s base entries m = pick (userMode s) (mapped base entries m) (unmapped m)
+-- by status and map
+unfoldable pub viewBy : ℕ → Map → Memory → View
+viewBy s map m = pick (userMode s) (mapped map m) (unmapped m)
 
 abbrev pub viewOf : Desk → Memory → View
-viewOf d m = viewBy (d .status) (d .base) (d .entries) m
+viewOf d m = viewBy (d .status) (d .map) m
 
 -- ---- Several bytes
 
@@ -143,26 +145,26 @@ commit (w ∷ ws) m = commit ws (set m (w .0 .0) (w .1))
 -- ---- The words of the paper
 
 -- entry p of the map of memory m names frame f: "a present, undamaged entry with p below the map length names it"
-pub record Names (base : RealAddress) (entries : ℕ) (m : Memory) (p : ℕ) (f : FrameNumber) : Type 0 where
-  pub below : p < entries
-  pub there : present (mapEntry base m p) ≡ true
-  pub whole : undamaged (length m) (mapEntry base m p) ≡ true
-  pub frame : frameOf (mapEntry base m p) ≡ f
+pub record Names (map : Map) (m : Memory) (p : ℕ) (f : FrameNumber) : Type 0 where
+  pub below : p < map .length
+  pub there : present (mapEntry map m p) ≡ true
+  pub whole : undamaged (length m) (mapEntry map m p) ≡ true
+  pub frame : frameOf (mapEntry map m p) ≡ f
 
 -- "A frame is reached"
-pub record Reached (base : RealAddress) (entries : ℕ) (m : Memory) (f : FrameNumber) : Type 0 where
+pub record Reached (map : Map) (m : Memory) (f : FrameNumber) : Type 0 where
   pub page : ℕ
-  pub names : Names base entries m page f
+  pub names : Names map m page f
 
 -- "Such an entry with the writable bit is a writable entry, and a frame that it names is a writable reached frame"
-pub record WritableReached (base : RealAddress) (entries : ℕ) (m : Memory) (f : FrameNumber) : Type 0 where
+pub record WritableReached (map : Map) (m : Memory) (f : FrameNumber) : Type 0 where
   pub page : ℕ
-  pub names : Names base entries m page f
-  pub write : writable (mapEntry base m page) ≡ true
+  pub names : Names map m page f
+  pub write : writable (mapEntry map m page) ≡ true
 
 -- the byte at place a belongs to the map: "from map base up to, but not including, map base + 4 × map length"; "bytes past the memory, and entries not wholly
 -- inside it, count for nothing", so the entry that the byte is part of lies inside
-pub record InMap (base : RealAddress) (entries : ℕ) (m : Memory) (a : ℕ) : Type 0 where
-  pub low : base .0 ≤ a
-  pub high : a < base .0 + 4 * entries
-  pub inside : base .0 + 4 * ((a - base .0) / 4) + 4 ≤ length m
+pub record InMap (map : Map) (m : Memory) (a : ℕ) : Type 0 where
+  pub low : map .base .0 ≤ a
+  pub high : a < map .base .0 + 4 * map .length
+  pub inside : map .base .0 + 4 * ((a - map .base .0) / 4) + 4 ≤ length m

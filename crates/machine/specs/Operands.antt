@@ -6,6 +6,7 @@ use lib.Dec.{ltb, leb, eqb}
 use lib.ListN.{set}
 use Rattle.machine.specs.declared.VirtualAddress.{VirtualAddress}
 use Rattle.machine.specs.declared.Access.the-variants.{Fetch, Read}
+use Rattle.machine.specs.declared.Alarm.the-variants as alarms
 use Rattle.machine.specs.declared.Role.{Role}
 use Rattle.machine.specs.declared.Role.the-variants.{Value, Address, Destination, Update}
 use Rattle.machine.specs.declared.Target.{Target}
@@ -95,7 +96,7 @@ past n r = set r 15 (raised (reg r 15) n)
 
 -- form and address of an operand, from its fields; 14's argument is "the operand's place from 1"
 abbrev pub formed : View → ℕ → ℕ → Registers → Fields → OrAlarm Operand
-formed v place L r k = pick (keepsRules L k) (byForm v L r k) (alarm 14 place)
+formed v place L r k = pick (keepsRules L k) (byForm v L r k) (alarm alarms.Operand place)
 
 -- "fetch, form, address" of the operand at R15: "Inside an operand R15 is the address just after its six bytes"
 unfoldable pub operandAt : View → ℕ → ℕ → Registers → OrAlarm Operand
@@ -113,13 +114,13 @@ valueIn v L r (memory a) = readBytes v Read L a
 
 -- "forms 1 and 2 have no address"
 unfoldable pub addressIn : ℕ → Location → OrAlarm ℕ
-addressIn place (immediate z) = alarm 14 place
-addressIn place (register x) = alarm 14 place
+addressIn place (immediate z) = alarm alarms.Operand place
+addressIn place (register x) = alarm alarms.Operand place
 addressIn place (memory a) = got (a .0)
 
 -- where a result goes: "Form 1 is no destination"
 unfoldable pub targetIn : ℕ → Location → OrAlarm Target
-targetIn place (immediate z) = alarm 14 place
+targetIn place (immediate z) = alarm alarms.Operand place
 targetIn place (register x) = got (Register x)
 targetIn place (memory a) = got (Memory a)
 

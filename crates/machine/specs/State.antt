@@ -7,6 +7,7 @@ use lib.Dec.{ltb, leb, eqb}
 use lib.ListN.{getD, take, drop}
 use Rattle.machine.specs.declared.RealAddress.{RealAddress}
 use Rattle.machine.specs.declared.FrameNumber.{FrameNumber}
+use Rattle.machine.specs.declared.Map.{Map}
 use Rattle.machine.specs.declared.Mark.{Mark}
 use Rattle.machine.specs.declared.Mark.the-variants.{Running, Stopped}
 use Rattle.machine.specs.declared.Desk.{Desk}
@@ -111,6 +112,10 @@ entryStatus block i = wordAt block (8 * i + 4)
 abbrev pub controlBlockBytes : ℕ
 controlBlockBytes = 80
 
+-- "R0 to R15, status and argument": the bytes that a kernel entry writes
+abbrev pub savedBlockBytes : ℕ
+savedBlockBytes = 72
+
 -- k registers from Ri on; a list that lacks one counts as 0 there
 unfoldable pub registersFrom : ℕ → ℕ → Registers → List ℕ
 registersFrom zero i r = []
@@ -124,9 +129,9 @@ savedBytes r s x = bytesOfWords (registersFrom 16 0 r ++ s ∷ x ∷ [])
 unfoldable pub blockFits : RealAddress → ℕ → ℕ → Bool
 blockFits a bytes n = eqb (a .0 % 4) 0 && leb (a .0 + bytes) n
 
--- the same for a map of that many entries, an empty one too
-abbrev pub mapFits : RealAddress → ℕ → ℕ → Bool
-mapFits base entries n = blockFits base (4 * entries) n
+-- the same for a map, an empty one too: four bytes an entry
+abbrev pub mapFits : Map → ℕ → Bool
+mapFits map n = blockFits (map .base) (4 * map .length) n
 
 -- ---- Mark: "running, or stopped with a number"
 
@@ -141,9 +146,21 @@ deskWith d r s p k = record {
   registers = r;
   status = s;
   pending = p;
-  base = d .base;
-  entries = d .entries;
+  map = d .map;
   system = d .system;
   control = d .control;
   mark = k;
+}
+
+-- The state with new registers, status, map and control block: what RESUME loads
+
+abbrev pub deskResumed : Desk → Registers → ℕ → Map → RealAddress → Desk
+deskResumed d r s map control = record {
+  registers = r;
+  status = s;
+  pending = d .pending;
+  map = map;
+  system = d .system;
+  control = control;
+  mark = d .mark;
 }

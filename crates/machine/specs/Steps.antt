@@ -1,5 +1,5 @@
 -- Document 01, "One step": the interrupt that is due, what becomes of a command in user mode and in kernel mode, kernel entry, RESUME, stops.
--- A command comes to an `Act` (Commands.antt); a step in user mode takes a `Course` from it, without the system block; a step's `Outcome` is the state that
+-- A command comes to a `Completion` (Commands.antt); a step in user mode takes a `Plan` from it, without the system block; a step's `Outcome` is the state that
 -- it leaves, an `Event`, and the bytes that it writes.
 use Prim.Native.Nat.{ℕ, zero, suc, _+_}
 use mathlib.Core.Bool.{Bool, true, false, _&&_}
@@ -7,13 +7,15 @@ use mathlib.Core.List.{List, []}
 use lib.Dec.{ltb}
 use lib.ListN.{length, set}
 use Rattle.machine.specs.declared.RealAddress.{RealAddress}
+use Rattle.machine.specs.declared.Alarm.the-variants as alarms
+use Rattle.machine.specs.declared.Map.{Map}
 use Rattle.machine.specs.declared.Mark.the-variants.{Stopped}
 use Rattle.machine.specs.declared.Desk.{Desk}
 use Rattle.machine.specs.Words.{pick, Memory, wordAt, wordsAt}
-use Rattle.machine.specs.State.{Registers, userMode, levelOf, flagsOf, withFlags, validUserStatus, validKernelStatus, isPending, withoutLevel, systemBlockOf, entryR15, entryStatus, controlBlockBytes, savedBytes, blockFits, mapFits, deskWith}
-use Rattle.machine.specs.Alarms.{OrAlarm, got, alarm}
+use Rattle.machine.specs.State.{Registers, userMode, levelOf, flagsOf, withFlags, validUserStatus, validKernelStatus, isPending, withoutLevel, systemBlockOf, entryR15, entryStatus, controlBlockBytes, savedBytes, blockFits, mapFits, deskWith, deskResumed}
+use Rattle.machine.specs.Alarms.{alarmNumber, alarmCause, OrAlarm, got, alarm}
 use Rattle.machine.specs.Map.{View, realOf, viewOf, RealWrites, realWritesFrom, located}
-use Rattle.machine.specs.Commands.{Done, Act, done, modal, SystemCall, userCommand, KernelEffect, halts, resumes, kernelCommand}
+use Rattle.machine.specs.Commands.{Done, Completion, done, ofMode, SystemCall, userCommand, KernelEffect, halts, resumes, kernelCommand}
 
 -- ---- What a step shows
 
@@ -44,11 +46,11 @@ completed r s ws d = record { desk = deskWith d r s (d .pending) (d .mark); even
 
 -- ---- User mode: what a step comes to, from registers r, status s, pending set p and view v alone
 
-pub data Course : Type 0 where
+pub data Plan : Type 0 where
   -- new registers and status, and real writes
-  goesOn : Registers → ℕ → RealWrites → Course
+  continues : Registers → ℕ → RealWrites → Plan
   -- a kernel entry: cause, registers to save, argument, the pending set left
-  enters : ℕ → Registers → ℕ → ℕ → Course
+  enters : ℕ → Registers → ℕ → ℕ → Plan
 
 -- the highest level from k down that is pending and above l; 0 for none
 unfoldable pub due : ℕ → ℕ → ℕ → ℕ
@@ -56,23 +58,23 @@ due zero p l = 0
 due (suc k) p l = pick (isPending p (suc k) && ltb l (suc k)) (suc k) (due k p l)
 
 -- "An alarm undoes the command's register changes and writes nothing": it saves the registers r from the command's start
-unfoldable pub userWritten : Registers → ℕ → ℕ → Done → OrAlarm RealWrites → Course
-userWritten r s p d (got ws) = goesOn (d .registers) (withFlags s (d .flags)) ws
-userWritten r s p d (alarm n x) = enters n r x p
+unfoldable pub userWritten : Registers → ℕ → ℕ → Done → OrAlarm RealWrites → Plan
+userWritten r s p d (got ws) = continues (d .registers) (withFlags s (d .flags)) ws
+userWritten r s p d (alarm n x) = enters (alarmCause n) r x p
 
 -- cause "1 for a system call (argument its value, saved R15 the next command)", "the alarm number otherwise (saved R15 the command's own address)"
-unfoldable pub ofUserCommand : Registers → ℕ → ℕ → View → OrAlarm (Act SystemCall) → Course
+unfoldable pub ofUserCommand : Registers → ℕ → ℕ → View → OrAlarm (Completion SystemCall) → Plan
 ofUserCommand r s p v (got (done d)) = userWritten r s p d (located v (d .writes))
-ofUserCommand r s p v (got (modal c)) = enters 1 (c .registers) (c .argument) p
-ofUserCommand r s p v (alarm n x) = enters n r x p
+ofUserCommand r s p v (got (ofMode c)) = enters 1 (c .registers) (c .argument) p
+ofUserCommand r s p v (alarm n x) = enters (alarmCause n) r x p
 
 -- "the highest pending level above the status level is entered and its pending bit cleared": cause "16 + level", "argument the level"
-unfoldable pub interrupted : ℕ → Registers → ℕ → Course → Course
+unfoldable pub interrupted : ℕ → Registers → ℕ → Plan → Plan
 interrupted zero r p otherwise = otherwise
 interrupted (suc k) r p otherwise = enters (16 + suc k) r (suc k) (withoutLevel p (suc k))
 
-unfoldable pub userCourse : Registers → ℕ → ℕ → View → Course
-userCourse r s p v = interrupted (due 15 p (levelOf s)) r p (ofUserCommand r s p v (userCommand v r (flagsOf s)))
+unfoldable pub userPlan : Registers → ℕ → ℕ → View → Plan
+userPlan r s p v = interrupted (due 15 p (levelOf s)) r p (ofUserCommand r s p v (userCommand v r (flagsOf s)))
 
 -- ---- Kernel entry
 
@@ -85,12 +87,12 @@ enterIf true d i r x p new s = record {
   writes = realWritesFrom (d .control .0) (savedBytes r (d .status) x);
 }
 
-unfoldable pub concluded : Desk → Memory → Course → Outcome
-concluded d block (goesOn r s ws) = completed r s ws d
+unfoldable pub concluded : Desk → Memory → Plan → Outcome
+concluded d block (continues r s ws) = completed r s ws d
 concluded d block (enters i r x p) = enterIf (validKernelStatus (entryStatus block i)) d i r x p (entryR15 block i) (entryStatus block i)
 
 unfoldable pub userStep : Desk → View → Memory → Outcome
-userStep d v block = concluded d block (userCourse (d .registers) (d .status) (d .pending) v)
+userStep d v block = concluded d block (userPlan (d .registers) (d .status) (d .pending) v)
 
 -- ---- Kernel mode: "an alarm stops the desk with its number"
 
@@ -99,25 +101,20 @@ userStep d v block = concluded d block (userCourse (d .registers) (d .status) (d
 unfoldable pub resume : Desk → Memory → RealAddress → Outcome
 resume d m a =
     let s = wordAt m (a .0 + 64) in
-    let base : RealAddress = record { 0 = wordAt m (a .0 + 72) } in
-    let entries = wordAt m (a .0 + 76) in
-    pick (blockFits a controlBlockBytes (length m) && mapFits base entries (length m) && validUserStatus s)
-    (record {
-      desk = record { registers = wordsAt 16 m (a .0); status = s; pending = d .pending; base = base; entries = entries; system = d .system; control = a; mark = d .mark };
-      event = quiet;
-      writes = [];
-    })
-    (stop 14 d)
+    let map : Map = record { base = record { 0 = wordAt m (a .0 + 72) }; length = wordAt m (a .0 + 76) } in
+    pick (blockFits a controlBlockBytes (length m) && mapFits map (length m) && validUserStatus s)
+    (record { desk = deskResumed d (wordsAt 16 m (a .0)) s map a; event = quiet; writes = [] })
+    (stop (alarmNumber alarms.Operand) d)
 
 unfoldable pub kernelWritten : Desk → Done → OrAlarm RealWrites → Outcome
 kernelWritten d c (got ws) = completed (c .registers) (withFlags (d .status) (c .flags)) ws d
-kernelWritten d c (alarm n x) = stop n d
+kernelWritten d c (alarm n x) = stop (alarmNumber n) d
 
-unfoldable pub ofKernelCommand : Desk → Memory → View → OrAlarm (Act KernelEffect) → Outcome
+unfoldable pub ofKernelCommand : Desk → Memory → View → OrAlarm (Completion KernelEffect) → Outcome
 ofKernelCommand d m v (got (done c)) = kernelWritten d c (located v (c .writes))
-ofKernelCommand d m v (got (modal (halts r))) = halt r d
-ofKernelCommand d m v (got (modal (resumes x))) = resume d m (realOf x)
-ofKernelCommand d m v (alarm n x) = stop n d
+ofKernelCommand d m v (got (ofMode (halts r))) = halt r d
+ofKernelCommand d m v (got (ofMode (resumes x))) = resume d m (realOf x)
+ofKernelCommand d m v (alarm n x) = stop (alarmNumber n) d
 
 unfoldable pub kernelStep : Desk → View → Memory → Outcome
 kernelStep d v m = ofKernelCommand d m v (kernelCommand v (d .registers) (flagsOf (d .status)))

@@ -1,22 +1,26 @@
--- Document 01, "Tried values": those marked *, which "are proved in one table", and the memory lengths. *2 to *11 are whole steps of a desk over code in its
+-- Document 01, "Tried values": those marked *, which "are proved in one table", and the memory lengths. *1 to *11 are whole steps of a desk over code in its
 -- memory. The proof is `tried-values` of proofs/TriedValues.antt.
 use Prim.Native.Nat.{ℕ, _+_, _-_, _*_}
 use mathlib.Core.Path.{_≡_}
 use mathlib.Core.Bool.{true, false}
 use mathlib.Core.List.{List, [], _∷_, _++_}
-use lib.ListN.{replicate, set}
+use lib.ListN.{replicate, set, take, drop}
 use lib.Seq.{sets}
 use Rattle.machine.specs.declared.Desk.{Desk}
 use Rattle.machine.specs.declared.Mark.the-variants.{Running}
 use Rattle.machine.specs.Words.{Memory, bytesOf, wordAt}
 use Rattle.machine.specs.State.{reg, flagsOf, allowedLength}
-use Rattle.machine.specs.Calls.{Stepped, stepOf}
+use Rattle.machine.specs.Calls.{noMap, Stepped, stepOf}
 
 -- ---- Code and numbers
 
 -- the six bytes of an operand that is the value z: form 1
 unfoldable pub I : ℕ → List ℕ
 I z = 1 ∷ 0 ∷ bytesOf 4 z
+
+-- of one at the address z: form 0
+unfoldable pub A : ℕ → List ℕ
+A z = 0 ∷ 0 ∷ bytesOf 4 z
 
 -- and of one that is register x: form 2
 unfoldable pub R : ℕ → List ℕ
@@ -38,8 +42,7 @@ kernelDesk i x = record {
   registers = set (set (replicate 16 0) 15 400) i x;
   status = 0x8000_0000;
   pending = 0;
-  base = record { 0 = 0 };
-  entries = 0;
+  map = noMap;
   system = record { 0 = 0 };
   control = record { 0 = 256 };
   mark = Running;
@@ -65,12 +68,12 @@ afterPOPR = stepOf (afterPUSHR .reply .desk) (afterPUSHR .memory)
 
 -- ---- The table
 
--- the command bytes in it: 01h PUSHR, 02h POPR, 10h MOVE B, 21h CONV, 40h ADD B, 48h SUB B, 58h DIV B, 5Ah DIV W, 60h SH, 61h ROT, 66h CMP W
+-- the command bytes in it: 01h PUSHR, 02h POPR, 10h MOVE B, 12h MOVE W, 21h CONV, 40h ADD B, 48h SUB B, 58h DIV B, 5Ah DIV W, 60h SH, 61h ROT, 66h CMP W
 pub record TriedValues : Type 0 where
   -- the paper's bytes for MOVE B I 2,R0: "10 01 00 00 00 00 02 02 00 00 00 00 00"
   pub code : 0x10 ∷ I 2 ++ R 0 ≡ 0x10 ∷ 0x01 ∷ 0x00 ∷ 0x00 ∷ 0x00 ∷ 0x00 ∷ 0x02 ∷ 0x02 ∷ 0x00 ∷ 0x00 ∷ 0x00 ∷ 0x00 ∷ 0x00 ∷ []
-  -- *1: "01020304h is stored 01 02 03 04"
-  pub star1 : bytesOf 4 0x0102_0304 ≡ 0x01 ∷ 0x02 ∷ 0x03 ∷ 0x04 ∷ []
+  -- *1: "01020304h is stored 01 02 03 04", by MOVE W I 01020304h,480
+  pub star1 : take 4 (drop 480 ((ranOn 0 (0x12 ∷ I 0x0102_0304 ++ A 480)) .memory)) ≡ 0x01 ∷ 0x02 ∷ 0x03 ∷ 0x04 ∷ []
   -- *2: "R0 = FFFFFFFFh, MOVE B I 2,R0 gives FFFFFF02h"
   pub star2 : registerAfter 0 (ranOn 0xFFFF_FFFF (0x10 ∷ I 2 ++ R 0)) ≡ 0xFFFF_FF02
   -- *3: "ADD B I 1 to 7Fh gives 80h, flags N V"

@@ -1,7 +1,14 @@
 // The MI desk's types. What they mean is defined in specs/, in document 01's order.
 ghost use mathlib.Core.Path.{_≡_};
 ghost use Rattle.machine.specs.Words.{lengthOf};
-ghost use Rattle.machine.specs.Calls.{refusalNumber, answerNumber, stepAnswerNumber};
+ghost use Rattle.machine.specs.State.{deskWith, deskResumed};
+ghost use Rattle.machine.specs.Alarms.{alarmNumber, alarmCause};
+ghost use Rattle.machine.specs.Calls.{refusalNumber, answerNumber, freshDesk, zeroDesk, stepAnswerNumber};
+
+// The bytes of the system block, of the control block, and of what a kernel entry saves there.
+pub const SYSTEM_BLOCK_BYTES: u64 = 256;
+
+pub const CONTROL_BLOCK_BYTES: u64 = 80;
 
 // Three kinds of number that must not stand for one another.
 
@@ -49,6 +56,24 @@ pub struct Result {
     pub flags: u32,
 }
 
+// Why a command was broken off: alarms 8 to 15.
+pub enum Alarm {
+    Address,
+    Absent,
+    MapEntry,
+    ReadOnly,
+    Command,
+    Mode,
+    Operand,
+    Divide,
+}
+
+// Where the map lies: its base, and its length in entries.
+pub struct Map {
+    pub base: RealAddress,
+    pub length: u32,
+}
+
 // A desk is running, or stopped with a number.
 pub enum Mark {
     Running,
@@ -60,9 +85,7 @@ pub struct Desk {
     pub registers: [u32; 16],
     pub status: u32,
     pub pending: u16,
-    // The map's base and its length in entries.
-    pub base: RealAddress,
-    pub entries: u32,
+    pub map: Map,
     // The addresses of the system block and the control block.
     pub system: RealAddress,
     pub control: RealAddress,
@@ -123,6 +146,115 @@ impl Size {
             Size::H => 2,
             Size::W => 4,
         }
+    }
+}
+
+impl Alarm {
+    // Its number in document 01.
+    pub fn number(self) -> u32
+        ensures { λ r. ⌜ r ≡ alarmNumber self ⌝ }
+    {
+        match self {
+            Alarm::Address => 8,
+            Alarm::Absent => 9,
+            Alarm::MapEntry => 10,
+            Alarm::ReadOnly => 11,
+            Alarm::Command => 12,
+            Alarm::Mode => 13,
+            Alarm::Operand => 14,
+            Alarm::Divide => 15,
+        }
+    }
+
+    // The cause of the kernel entry that it makes in user mode.
+    pub fn cause(self) -> u32
+        ensures { λ r. ⌜ r ≡ alarmCause self ⌝ }
+    {
+        self.number()
+    }
+}
+
+impl Desk {
+    // The only place where a desk is put together.
+    pub fn new(
+        registers: [u32; 16],
+        status: u32,
+        pending: u16,
+        map: Map,
+        system: RealAddress,
+        control: RealAddress,
+        mark: Mark,
+    ) -> Desk
+        ensures { λ r. ⌜ r ≡ record { registers = registers; status = status; pending = pending; map = map; system = system; control = control; mark = mark } ⌝ }
+    {
+        Desk {
+            registers,
+            status,
+            pending,
+            map,
+            system,
+            control,
+            mark,
+        }
+    }
+
+    // Kernel mode, zero registers but R15, no map.
+    pub fn fresh(system: RealAddress, control: RealAddress, start: VirtualAddress) -> Desk
+        ensures { λ r. ⌜ r ≡ freshDesk system control start ⌝ }
+    {
+        let mut registers: [u32; 16] = [0; 16];
+        registers[15] = start.0;
+        let map = Map {
+            base: RealAddress(0),
+            length: 0,
+        };
+        Desk::new(
+            registers,
+            0x8000_0000,
+            0,
+            map,
+            system,
+            control,
+            Mark::Running,
+        )
+    }
+
+    // All zeros, stopped with a number.
+    pub fn zero(number: u32) -> Desk
+        ensures { λ r. ⌜ r ≡ zeroDesk number ⌝ }
+    {
+        let map = Map {
+            base: RealAddress(0),
+            length: 0,
+        };
+        Desk::new(
+            [0; 16],
+            0,
+            0,
+            map,
+            RealAddress(0),
+            RealAddress(0),
+            Mark::Stopped(number),
+        )
+    }
+
+    // With other registers, status, pending set and mark.
+    pub fn with(self, registers: [u32; 16], status: u32, pending: u16, mark: Mark) -> Desk
+        ensures { λ r. ⌜ r ≡ deskWith self registers status pending mark ⌝ }
+    {
+        let map = self.map;
+        let system = self.system;
+        let control = self.control;
+        Desk::new(registers, status, pending, map, system, control, mark)
+    }
+
+    // With what RESUME loads from a control block, which becomes the desk's own.
+    pub fn resumed(self, registers: [u32; 16], status: u32, map: Map, control: RealAddress) -> Desk
+        ensures { λ r. ⌜ r ≡ deskResumed self registers status map control ⌝ }
+    {
+        let system = self.system;
+        let mark = self.mark;
+        Desk::new(registers, status, self.pending, map, system, control, mark)
     }
 }
 

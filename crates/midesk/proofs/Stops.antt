@@ -30,8 +30,8 @@ use Rattle.machine.specs.Code.{Operation, Common, Command, Known, KernelOnly, R
 use Rattle.machine.specs.Code as code
 use Rattle.machine.specs.Integers.{operate}
 use Rattle.machine.specs.Operands.{Fields, virtual, past, fieldsAt, keepsRules, byForm, Location, immediate, register, memory, Operand, operandAt, valueIn, addressIn, targetIn, takenBy, Operands, operandsFrom}
-use Rattle.machine.specs.Commands.{popped, commonDone, knownOr12, Allowed, both, only, allowedInKernelMode, Act, done, modal, actOf, KernelEffect, halts, resumes, kernelEffect, commandBy, kernelCommand}
-use Rattle.machine.specs.Steps.{Outcome, Course, goesOn, enters, stop, halt, completed, enterIf, concluded, userStep, resume, kernelWritten, ofKernelCommand, kernelStep, oneStep}
+use Rattle.machine.specs.Commands.{popped, commonDone, knownOr12, Allowed, both, only, allowedInKernelMode, Completion, done, ofMode, completionOf, KernelEffect, halts, resumes, kernelEffect, commandBy, kernelCommand}
+use Rattle.machine.specs.Steps.{Outcome, Plan, continues, enters, stop, halt, completed, enterIf, concluded, userStep, resume, kernelWritten, ofKernelCommand, kernelStep, oneStep}
 use Rattle.machine.specs.Calls.{refusalNumber, zeroDesk, freshDesk, freshReply, freshRefusal, freshOf, unchanged, unlessRefused, stepRefusal, stepOutcome, requestRefusal, requestOutcome, Ran, ran, stepsOf, runUnless, runOf}
 use Rattle.midesk.specs.Layout.{runs, markNumber, markOf, unpacked}
 
@@ -169,8 +169,8 @@ module _ (v : View) (sees : (x : VirtualAddress) (w : Access) → Numbered (v x 
   does code.CALL f o = tt
   does code.RET f o = after (readBytes v Read 4 (virtual (reg (o .registers) 14))) _ (reads Read 4 _ 0) (λ w. tt)
 
-  acts : (c : Allowed KernelOnly) (f : ℕ) (o : Operands) → Numbered (actOf kernelEffect c v f o)
-  unfolding actOf
+  acts : (c : Allowed KernelOnly) (f : ℕ) (o : Operands) → Numbered (completionOf kernelEffect c v f o)
+  unfolding completionOf
   acts (both c) f o = after (commonDone c v f o) _ (does c f o) (λ d. tt)
   acts (only s) f o = tt
 
@@ -221,20 +221,20 @@ module _ (d : Desk) (told : Told (d .mark)) where
   enters-if false i r x p new s = stops 16 (omega arith)
   enters-if true i r x p new s = told
 
-  concludes : (block : Memory) (c : Course) → Leaves (concluded d block c)
+  concludes : (block : Memory) (c : Plan) → Leaves (concluded d block c)
   unfolding concluded completed
-  concludes block (goesOn r s ws) = told
+  concludes block (continues r s ws) = told
   concludes block (enters i r x p) = enters-if _ i r x p _ _
 
-  kernel-ends : (m : Memory) (v : View) → ((x : VirtualAddress) (w : Access) → Numbered (v x w)) → (o : OrAlarm (Act KernelEffect)) → Numbered o → Leaves (ofKernelCommand d m v o)
+  kernel-ends : (m : Memory) (v : View) → ((x : VirtualAddress) (w : Access) → Numbered (v x w)) → (o : OrAlarm (Completion KernelEffect)) → Numbered o → Leaves (ofKernelCommand d m v o)
   unfolding ofKernelCommand kernelWritten completed halt stop
   kernel-ends m v sees (got (done c)) h = go (located v (c .writes)) (locates v sees (c .writes))
     where
       go : (o : OrAlarm _) → Numbered o → Leaves (kernelWritten d c o)
       go (got ws) h = told
       go (alarm n x) h = stops n h
-  kernel-ends m v sees (got (modal (halts r))) h = stops 0 (omega arith)
-  kernel-ends m v sees (got (modal (resumes x))) h = resumed m (realOf x)
+  kernel-ends m v sees (got (ofMode (halts r))) h = stops 0 (omega arith)
+  kernel-ends m v sees (got (ofMode (resumes x))) h = resumed m (realOf x)
   kernel-ends m v sees (alarm n x) h = stops n h
 
   one-step : (m : Memory) → Leaves (oneStep d m)

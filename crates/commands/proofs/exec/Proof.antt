@@ -1,7 +1,7 @@
 -- `exec` is right: it ends at the first alarm of byte, mode and operands, or with what `finish` makes of what the byte asks for.
 use mathlib.Core.Path.{sym, _∙_}
 use borrow.Author.Needs.{needs}
-use Rattle.commands.proofs.Laws.{exec-unfetched, exec-forbidden, exec-alarm, exec-asked}
+use Rattle.commands.proofs.Laws.{exec-unfetched, exec-forbidden, exec-alarm, exec-action}
 use Rattle.commands.proofs.exec.Statement.{statement}
 use Rattle.commands.proofs.exec.Tie as tie
 
@@ -89,8 +89,8 @@ returns-4 c =
     let fetched = mode .before .before .before .before .fetch .ensures in
     let a = mode .before .before .before .before .before .before .before .before .args in
     c .before .before .finish .ensures
-    ∙ rw (c .before .before .before .before .before .asked-of .ensures)
-    (exec-asked (a .status) (a .base) (a .entries) (a .regs .now) (a .mem .now) _ (rw byte at (fetched .0)) (rw byte at (fetched .1 .0)) (sym (mode .forbidden .ensures) ∙ c .before .before .before .before .before .before .before .before .before .before .before .before .before .before .if1 .left) _
+    ∙ rw (c .before .before .before .before .before .action-of .ensures)
+    (exec-action (a .status) (a .base) (a .entries) (a .regs .now) (a .mem .now) _ (rw byte at (fetched .0)) (rw byte at (fetched .1 .0)) (sym (mode .forbidden .ensures) ∙ c .before .before .before .before .before .before .before .before .before .before .before .before .before .before .if1 .left) _
     (rw (c .before .before .before .before .before .before .before .o2 .given .1, c .before .before .before .before .before .before .before .before .before .before .before .before .rules-of .ensures .0, c .before .before .before .before .before .before .before .before .before .before .before .before .before .plus .ensures) at (c .before .before .before .before .before .before .before .before .before .take-all .ensures .0)))
 
 pub exec-spec : {M : Type 1} → statement M

@@ -1,6 +1,6 @@
 -- `finish` is right in each case of the act: its function ends the command, or the end is what the case says.
 use borrow.Author.Needs.{needs}
-use Rattle.commands.specs.Ends.{actEnd}
+use Rattle.commands.specs.Ends.{actionEnd}
 use Rattle.commands.proofs.finish.Statement.{statement}
 use Rattle.commands.proofs.finish.Tie as tie
 
@@ -62,63 +62,63 @@ same-length : tie.Need-same-length
 same-length c = search needs
 
 returns : tie.Need-returns
-unfolding actEnd
+unfolding actionEnd
 returns c = rw (c .before .before .before .before .before .before .what .given .1) (c .before .before .put .ensures)
 
 returns-2 : tie.Need-returns-2
-unfolding actEnd
+unfolding actionEnd
 returns-2 c = rw (c .before .before .what2 .given .1, c .with-flags .ensures)
 
 returns-3 : tie.Need-returns-3
-unfolding actEnd
+unfolding actionEnd
 returns-3 c = rw (c .before .before .what3 .given .1, c .if1 .taken)
 
 returns-4 : tie.Need-returns-4
-unfolding actEnd
+unfolding actionEnd
 returns-4 c = rw (c .before .before .what3 .given .1, c .if1 .left)
 
 same-length-2 : tie.Need-same-length-2
 same-length-2 c = search needs
 
 returns-5 : tie.Need-returns-5
-unfolding actEnd
+unfolding actionEnd
 returns-5 c = rw (c .before .before .before .before .before .enum-told .given .1) (c .before .before .push .ensures)
 
 same-length-3 : tie.Need-same-length-3
 same-length-3 c = search needs
 
 returns-6 : tie.Need-returns-6
-unfolding actEnd
+unfolding actionEnd
 returns-6 c = rw (c .before .before .before .enum-told2 .given .1) (c .pop .ensures)
 
 same-length-4 : tie.Need-same-length-4
 same-length-4 c = search needs
 
 returns-7 : tie.Need-returns-7
-unfolding actEnd
+unfolding actionEnd
 returns-7 c = rw (c .before .before .before .before .before .enum-told3 .given .1) (c .before .before .call .ensures)
 
 same-length-5 : tie.Need-same-length-5
 same-length-5 c = search needs
 
 returns-8 : tie.Need-returns-8
-unfolding actEnd
+unfolding actionEnd
 returns-8 c = rw (c .before .before .before .enum-told4 .given .1) (c .ret .ensures)
 
 returns-9 : tie.Need-returns-9
-unfolding actEnd
+unfolding actionEnd
 returns-9 c = rw (c .enum-told5 .given .1)
 
 returns-10 : tie.Need-returns-10
-unfolding actEnd
+unfolding actionEnd
 returns-10 c = rw (c .enum-told6 .given .1)
 
 returns-11 : tie.Need-returns-11
-unfolding actEnd
+unfolding actionEnd
 returns-11 c = rw (c .enum-told7 .given .1)
 
 returns-12 : tie.Need-returns-12
-unfolding actEnd
+unfolding actionEnd
 returns-12 c = rw (c .before .what4 .given .1)
 
 pub finish-spec : {M : Type 1} → statement M

@@ -1,4 +1,4 @@
--- `asked_of` is right: each arm's bytes are those of its command's rows, and the bytes that no arm names lie in no row.
+-- `action_of` is right: each arm's bytes are those of its command's rows, and the bytes that no arm names lie in no row.
 use Prim.Native.Nat.{ℕ, _+_, _%_, _≤_, _<_}
 use mathlib.Core.Path.{_≡_, refl}
 use lib.Dec.{T}
@@ -13,18 +13,18 @@ use Rattle.machine.specs.Words.{sizeAt}
 use Rattle.machine.specs.Code.{MOVE, CLEAR, MOVEN, MOVEC, OR, ANDNOT, XOR, ADD, SUB, MULT, DIV, Common, result, CMP, table, knownIn, known}
 use Rattle.machine.specs.Integers.{natural, operate}
 use Rattle.machine.specs.Commands.{jumps}
-use Rattle.codes.specs.declared.Asked.{Asked}
-use Rattle.codes.specs.declared.Asked.the-variants.{Alarm}
-use Rattle.codes.specs.Asked.{commonAct, askedOf}
+use Rattle.codes.specs.declared.Action.{Action}
+use Rattle.codes.specs.declared.Action.the-variants.{Alarm}
+use Rattle.codes.specs.Action.{commonAction, actionOf}
 use Rattle.codes.proofs.Bytes.{values, same, between, unknown}
-use Rattle.codes.proofs.asked_of.Statement.{statement}
-use Rattle.codes.proofs.asked_of.Tie as tie
+use Rattle.codes.proofs.action_of.Statement.{statement}
+use Rattle.codes.proofs.action_of.Tie as tie
 
-abbrev act : tie.Start → ℕ → Asked
-act c b = askedOf b (c .args .f) (c .args .x) (c .args .y)
+abbrev act : tie.Start → ℕ → Action
+act c b = actionOf b (c .args .f) (c .args .x) (c .args .y)
 
-abbrev does : tie.Start → Common → Asked
-does c k = commonAct k (c .args .f) (c .args .x) (c .args .y)
+abbrev does : tie.Start → Common → Action
+does c k = commonAction k (c .args .f) (c .args .x) (c .args .y)
 
 -- the bytes from n on are the command k at its three sizes
 abbrev Row : tie.Start → (Size → Common) → ℕ → Type 0
@@ -41,14 +41,14 @@ rows : {A B : Type 0} (k : Size → Common) (n : ℕ) (c : tie.After-size-at) �
 rows k n c e f p q = ⊎-elim (λ a. row k n c e (p a)) (λ a. row k (n + 4) c f (q a))
 
 gap : (lo hi : ℕ) (c : tie.At-match-rest) → T (between table lo hi) → Within (c .before .before) lo hi → Alarm 12 (c .before .before .args .b) ≡ act (c .before .before) (c .before .before .args .b)
-unfolding askedOf known table
+unfolding actionOf known table
 gap lo hi c t p = rw (unknown lo hi (c .before .before .args .b) (p .0) (p .1) table t Unit (c .match .rest) .1)
 
 word : {n : ℕ} → Fits w32 n → natural 4 n ≡ n
 word f = mod-eq-of-lt (f .fits)
 
 pub asked-of-spec : {M : Type 1} → statement M
-unfolding askedOf known knownIn table operate jumps
+unfolding actionOf known knownIn table operate jumps
 asked-of-spec =
     tie.close
     (tie.spec

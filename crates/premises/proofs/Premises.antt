@@ -10,15 +10,15 @@ use borrow.Author.Tests.{ltb-false, eqb-false, eq-eqb, le-leb, lt-ltb}
 use lib.Dec.{ltb, leb, eqb}
 use lib.ListN.{length, replicate, set, length-set}
 use lib.Seq.{getD-set-other}
 use Rattle.machine.specs.declared.Desk.{Desk}
 use Rattle.machine.specs.declared.Mark.the-variants.{Running}
 use Rattle.machine.specs.Words.{Memory, byteAt}
 use Rattle.machine.specs.State.{reg, userMode, frameAround, savedBytes}
 use Rattle.machine.specs.Map.{mapEntry, present, frameOf, undamaged, Reached}
 use Rattle.machine.specs.Calls.{passes6, requestRefusal, requestOutcome}
 use Rattle.machine.specs.Isolation.{step, Premise, inUserMode, oneLength, sameMap, sameSystemBlock, sameReachedFrames, mapNotWritable, Holds}
-use Rattle.machine.specs.Premises.{Met, Needed, EachNeeded}
+use Rattle.premises.specs.Premises.{Met, Needed, EachNeeded}
 use Rattle.machine.proofs.WholeStep.{wholeStep}
 
 -- ---- The desks and the memories
 
@@ -28,8 +28,7 @@ deskAt s r15 = record {
   registers = set (replicate 16 0) 15 r15;
   status = s;
   pending = 0;
-  base = record { 0 = 512 };
-  entries = 4;
+  map = record { base = record { 0 = 512 }; length = 4 };
   system = record { 0 = 0 };
   control = record { 0 = 256 };
   mark = Running;

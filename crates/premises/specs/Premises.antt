@@ -24,7 +24,7 @@ allBelow k (x ∷ xs) = ltb x k && allBelow k xs
 abbrev pub holdable : Desk → Memory → Bool
 holdable d m =
     eqb (length (d .registers)) 16
-    && allBelow 0x1_0000_0000 (d .status ∷ d .base .0 ∷ d .entries ∷ d .system .0 ∷ d .control .0 ∷ d .registers)
+    && allBelow 0x1_0000_0000 (d .status ∷ d .map .base .0 ∷ d .map .length ∷ d .system .0 ∷ d .control .0 ∷ d .registers)
     && ltb (d .pending) 0x1_0000
     && isRunning (d .mark)
     && allBelow 0x100 m
