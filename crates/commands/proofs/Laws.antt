@@ -18,13 +18,14 @@ use Rattle.machine.specs.Code.{Common, result, CMP, PUSHR, POPR, jump, CALL, RE
 use Rattle.machine.specs.Integers.{natural, operate}
 use Rattle.machine.specs.Operands.{virtual, past, Operands, operandsFrom, operandsOf}
 use Rattle.machine.specs.Commands.{Done, stored, commonDone, done, knownOr12, allowedInUserMode, allowedInKernelMode, completionOf, commandBy, userEffect, userCommand, kernelEffect, kernelCommand}
-use Rattle.access.specs.declared.Stored.{Stored}
-use Rattle.access.specs.Answers.{storedAs, storeEndOf}
-use Rattle.codes.specs.Rules.{knownRules, forbiddenOf}
-use Rattle.codes.specs.Action.{given, commonAction, commandAction, knownAction}
-use Rattle.codes.specs.Action.{actionOf as asked}
-use Rattle.commands.specs.declared.Out.{Out}
-use Rattle.commands.specs.Ends.{End, alarmed, outAs, afterStore, AfterStore, writtenEnd, doneEnd, userEnd, kernelEnd, execOf, actionEnd}
+use Rattle.stores.specs.declared.Stored.{Stored}
+use Rattle.stores.specs.Answers.{storedAs, storeEndOf}
+use Rattle.rules.specs.Rules.{knownRules, forbiddenOf}
+use Rattle.actions.specs.Actions.{given, commonAction, commandAction, knownAction}
+use Rattle.actions.specs.Actions.{actionOf as asked}
+use Rattle.results.specs.declared.Out.{Out}
+use Rattle.results.specs.Ends.{End, alarmed, outAs, afterStore, AfterStore, writtenEnd, doneEnd}
+use Rattle.commands.specs.Execution.{userEnd, kernelEnd, execOf, actionEnd}
 use Rattle.commands.proofs.Modes.{forbids, forbidsKnown, forbids-byte}
 
 -- ---- Addresses
@@ -145,24 +146,24 @@ pick-same : (u : Bool) (e : End) → pick u e e ≡ e
 pick-same true e = refl
 pick-same false e = refl
 
-module _ (s : ℕ) (base : RealAddress) (entries : ℕ) (r : Registers) (m : Memory) where
-  pub exec-unfetched : (n x : ℕ) → alarm n x ≡ readBytes (viewBy s base entries m) Fetch 1 (record { 0 = reg r 15 }) → alarmed n x m ≡ execOf s base entries r m
+module _ (s : ℕ) (map : Map) (r : Registers) (m : Memory) where
+  pub exec-unfetched : (n x : ℕ) → alarm n x ≡ readBytes (viewBy s map m) Fetch 1 (record { 0 = reg r 15 }) → alarmed n x m ≡ execOf s map r m
   unfolding execOf userCommand kernelCommand commandBy
   exec-unfetched n x h = rw (read-virtual, ← h, pick-same)
 
-  module _ (b : ℕ) (h : got b ≡ readBytes (viewBy s base entries m) Fetch 1 (record { 0 = reg r 15 })) (l : b < 256) where
-    fetched : execOf s base entries r m ≡ fetchedEnd s m (viewBy s base entries m) r b (userMode s) (known b)
+  module _ (b : ℕ) (h : got b ≡ readBytes (viewBy s map m) Fetch 1 (record { 0 = reg r 15 })) (l : b < 256) where
+    fetched : execOf s map r m ≡ fetchedEnd s m (viewBy s map m) r b (userMode s) (known b)
     unfolding execOf userCommand kernelCommand commandBy fetchedEnd
     fetched = rw (read-virtual, ← h)
 
-    pub exec-forbidden : forbiddenOf b s ≡ true → alarmed 13 b m ≡ execOf s base entries r m
-    exec-forbidden f = sym (fetched ∙ forbidden-known s m (viewBy s base entries m) r b (userMode s) (known b) (forbids-byte (userMode s) b l ∙ f))
+    pub exec-forbidden : forbiddenOf b s ≡ true → alarmed 13 b m ≡ execOf s map r m
+    exec-forbidden f = sym (fetched ∙ forbidden-known s m (viewBy s map m) r b (userMode s) (known b) (forbids-byte (userMode s) b l ∙ f))
 
     module _ (f : forbiddenOf b s ≡ false) where
-      pub exec-alarm : (n x : ℕ) → alarm n x ≡ operandsOf (viewBy s base entries m) (knownRules (known b)) (past 1 r) → alarmed n x m ≡ execOf s base entries r m
-      exec-alarm n x a = sym (fetched ∙ alarm-known s m (viewBy s base entries m) r b (userMode s) (known b) n x (forbids-byte (userMode s) b l ∙ f) (sym a))
+      pub exec-alarm : (n x : ℕ) → alarm n x ≡ operandsOf (viewBy s map m) (knownRules (known b)) (past 1 r) → alarmed n x m ≡ execOf s map r m
+      exec-alarm n x a = sym (fetched ∙ alarm-known s m (viewBy s map m) r b (userMode s) (known b) n x (forbids-byte (userMode s) b l ∙ f) (sym a))
 
-      pub exec-action : (o : Operands) → got o ≡ operandsOf (viewBy s base entries m) (knownRules (known b)) (past 1 r)
-          → actionEnd s m (viewBy s base entries m) (o .registers) (o .first) (o .target) (asked b (flagsOf s) (o .first) (o .second)) ≡ execOf s base entries r m
+      pub exec-action : (o : Operands) → got o ≡ operandsOf (viewBy s map m) (knownRules (known b)) (past 1 r)
+          → actionEnd s m (viewBy s map m) (o .registers) (o .first) (o .target) (asked b (flagsOf s) (o .first) (o .second)) ≡ execOf s map r m
       unfolding asked
-      exec-action o a = sym (fetched ∙ asked-known s m (viewBy s base entries m) r b (userMode s) (known b) o (forbids-byte (userMode s) b l ∙ f) (sym a))
+      exec-action o a = sym (fetched ∙ asked-known s m (viewBy s map m) r b (userMode s) (known b) o (forbids-byte (userMode s) b l ∙ f) (sym a))

@@ -1,3 +1,2 @@
-mod Modes
-mod Laws
-mod Stack
+pub mod Laws
+pub mod Modes

@@ -1,55 +1,7 @@
--- What a step hands back, with the memory that it leaves, from an outcome of `machine` or from a command's end.
-use Prim.Native.Nat.{ℕ, _+_, _≤_}
-use lib.ListN.{length}
-use Rattle.machine.specs.declared.Desk.{Desk}
-use Rattle.machine.specs.declared.StepReply.{StepReply}
-use Rattle.machine.specs.declared.StepAnswer.{StepAnswer}
-use Rattle.machine.specs.declared.StepAnswer.the-variants as stepAnswer
+-- What a run hands back, with the memory that it leaves.
 use Rattle.machine.specs.declared.RunReply.{RunReply}
-use Rattle.machine.specs.Words.{pick, Memory}
-use Rattle.machine.specs.State.{userMode, levelOf, systemBlockOf, deskWith}
-use Rattle.machine.specs.Map.{realOf, commit}
-use Rattle.machine.specs.Steps.{Outcome, Plan, enters, due, concluded, stop, halt, resume}
-use Rattle.machine.specs.Calls.{Stepped, eventAnswer, Ran}
-use Rattle.commands.specs.Ends.{End, went, calls, haltEnd, resumeEnd, alarmed}
-
--- what kernel entries rely on: numbers 2 and 3 have nothing to refuse
-pub record Blocks (d : Desk) (m : Memory) : Type 0 where
-  pub system : d .system .0 + 256 ≤ length m
-  pub control : d .control .0 + 80 ≤ length m
-
-abbrev pub stepped : StepReply → Memory → Stepped
-stepped r m = record { reply = r; memory = m }
-
-abbrev pub steppedTo : StepAnswer → Desk → Memory → Stepped
-steppedTo a d m = stepped (record { answer = a; desk = d }) m
+use Rattle.machine.specs.Words.{Memory}
+use Rattle.machine.specs.Calls.{Ran}
 
 abbrev pub ranAs : RunReply → Memory → Ran
 ranAs r m = record { reply = r; memory = m }
-
-abbrev pub replyOf : Outcome → StepReply
-replyOf o = record { answer = eventAnswer (o .event); desk = o .desk }
-
--- an outcome over memory m
-abbrev pub shown : Outcome → Memory → Stepped
-shown o m = stepped (replyOf o) (commit (o .writes) m)
-
--- a course over memory m: a kernel entry reads the system block
-abbrev pub enteredBy : Desk → Memory → Plan → Stepped
-enteredBy d m c = shown (concluded d (systemBlockOf d m) c) m
-
--- an alarm enters the kernel in user mode and stops the desk in kernel mode
-abbrev pub alarmedBy : Desk → Memory → ℕ → ℕ → Stepped
-alarmedBy d m n x = pick (userMode (d .status)) (enteredBy d m (enters n (d .registers) x (d .pending))) (shown (stop n d) m)
-
--- a command's end, of desk d over memory m
-unfoldable pub concludedEnd : Desk → Memory → End → Stepped
-concludedEnd d m (went r s n) = stepped (record { answer = stepAnswer.Done; desk = deskWith d r s (d .pending) (d .mark) }) n
-concludedEnd d m (calls x r n) = enteredBy d m (enters 1 r x (d .pending))
-concludedEnd d m (haltEnd r n) = shown (halt r d) m
-concludedEnd d m (resumeEnd x n) = shown (resume d m (realOf x)) m
-concludedEnd d m (alarmed n x k) = alarmedBy d m n x
-
--- the level that is due, 0 for none: only in user mode
-unfoldable pub interruptOf : ℕ → ℕ → ℕ
-interruptOf s p = pick (userMode s) (due 15 p (levelOf s)) 0

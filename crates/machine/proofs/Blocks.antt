@@ -6,7 +6,7 @@ use native.Mathlib.Nat.{add-zero, div-one}
 use native.Mathlib.Numerals.{add-one}
 use native.Mathlib.Omega.{arith}
 use lib.ListN.{length, getD, set, take, drop, length-append, length-take, List·getD-eq-default}
-use lib.Seq.{take-suc, take-at, sets-eq, getD-take, getD-drop}
+use lib.Seq.{drop-cons, drop-length, sets-eq, getD-take, getD-drop}
 use Rattle.machine.specs.Words.{Memory, byteAt, bytesOf, bytesOfWords, wordAt, wordsAt}
 use Rattle.machine.specs.State.{Registers, reg, registersFrom}
 use Rattle.machine.specs.Map.{realWritesFrom, commit}
@@ -61,36 +61,29 @@ commit-words : (w : ℕ) (ws : List ℕ) (a : ℕ) (m : Memory)
 unfolding bytesOfWords
 commit-words w ws a m = rw bytes-length at (commit-append (bytesOf 4 w) (bytesOfWords ws) a m)
 
-pub commit-pair : (v w a : ℕ) (m : Memory)
-    → commit (realWritesFrom a (bytesOfWords (v ∷ w ∷ []))) m ≡ commit (realWritesFrom (a + 4) (bytesOf 4 w)) (commit (realWritesFrom a (bytesOf 4 v)) m)
-commit-pair v w a m = commit-words v (w ∷ []) a m ∙ (unfold commit realWritesFrom bytesOfWords in commit-words w [] (a + 4) _)
-
-registers-more : (n i : ℕ) (r : Registers) → i < n → registersFrom (n - i) i r ≡ reg r i ∷ registersFrom (n - (i + 1)) (i + 1) r
-unfolding registersFrom
-registers-more n i r h =
-    let e : n - i ≡ suc (n - (i + 1)) = omega arith in
-    let f : i + 1 ≡ suc i = omega arith in
-    rw (e, f)
-
--- one of n registers more
-pub commit-registers : (n i : ℕ) (r : Registers) (rest : List ℕ) (a : ℕ) (m : Memory) → i < n
-    → commit (realWritesFrom (a + 4 * i) (bytesOfWords (registersFrom (n - i) i r ++ rest))) m
-    ≡ commit (realWritesFrom (a + 4 * (i + 1)) (bytesOfWords (registersFrom (n - (i + 1)) (i + 1) r ++ rest))) (commit (realWritesFrom (a + 4 * i) (bytesOf 4 (reg r i))) m)
-commit-registers n i r rest a m h =
+-- word i of some, then those after it
+pub commit-next : (i : ℕ) (ws : List ℕ) (a : ℕ) (m : Memory) → i < length ws
+    → commit (realWritesFrom (a + 4 * i) (bytesOfWords (drop i ws))) m
+    ≡ commit (realWritesFrom (a + 4 * (i + 1)) (bytesOfWords (drop (i + 1) ws))) (commit (realWritesFrom (a + 4 * i) (bytesOf 4 (getD ws i 0))) m)
+commit-next i ws a m h =
     let e : a + 4 * (i + 1) ≡ a + 4 * i + 4 = omega arith in
-    rw (registers-more n i r h, e) (commit-words (reg r i) _ (a + 4 * i) m)
+    rw (add-one i, drop-cons ws i 0 h, ← add-one i, e) (commit-words (getD ws i 0) _ (a + 4 * i) m)
 
--- ---- Laid into a row of bytes, one after another
+-- some words, then two more
+pub commit-two-more : (ws : List ℕ) (v w a n : ℕ) (m : Memory) → length ws ≡ n
+    → commit (realWritesFrom a (bytesOfWords (ws ++ v ∷ w ∷ []))) m
+    ≡ commit (realWritesFrom (a + (4 * n + 4)) (bytesOf 4 w)) (commit (realWritesFrom (a + 4 * n) (bytesOf 4 v)) (commit (realWritesFrom a (bytesOfWords ws)) m))
+commit-two-more ws v w a n m l =
+    let e : a + length (bytesOfWords ws) ≡ a + 4 * n = omega (arith, words-length ws) in
+    let f : a + 4 * n + 4 ≡ a + (4 * n + 4) = omega arith in
+    rw (words-append, commit-append (bytesOfWords ws) _ a m, e, commit-words v (w ∷ []) (a + 4 * n) _, one-word, f)
 
--- a word that is laid into a row after others
-pub word-laid : (bytes words : List ℕ) (i w : ℕ) → 4 * i + 4 ≤ length bytes → i < length words → getD words i 0 ≡ w → take (4 * i) bytes ≡ bytesOfWords (take i words)
-    → take (4 * (i + 1)) (set (set (set (set bytes (4 * i) (w / 16777216 % 256)) (4 * i + 1) (w / 65536 % 256)) (4 * i + 2) (w / 256 % 256)) (4 * i + 3) (w % 256))
-    ≡ bytesOfWords (take (i + 1) words)
-word-laid bytes words i w h l e t =
-    let four : 4 * (i + 1) ≡ 4 * i + 4 = omega arith in
-    let room : 4 * i + length (bytesOf 4 w) ≤ length bytes = omega (arith, bytes-length 4 w) in
-    let long : length (take (4 * i) bytes ++ bytesOf 4 w) ≡ 4 * i + 4 = simp (length-append, length-take, bytes-length) (omega arith) in
-    rw (four, add-one i, take-suc words i 0 l, words-append, e, one-word, ← t, ← commit-word w (4 * i) bytes, commit-from (bytesOf 4 w) (4 * i) bytes, sets-eq (bytesOf 4 w) bytes (4 * i) room, take-at (take (4 * i) bytes ++ bytesOf 4 w) (drop (4 * i + length (bytesOf 4 w)) bytes) (4 * i + 4) long)
+-- words that fill a row of bytes from its start
+pub row-filled : (ws bs : List ℕ) → 4 * length ws ≡ length bs → commit (realWritesFrom 0 (bytesOfWords ws)) bs ≡ bytesOfWords ws
+row-filled ws bs l =
+    let e : length (bytesOfWords ws) ≡ length bs = words-length ws ∙ l in
+    let z : 0 + length bs ≡ length bs = omega arith in
+    rw (commit-from, sets-eq (bytesOfWords ws) bs 0 (omega arith), e, z, drop-length, append-nil)
 
 -- ---- Read
 

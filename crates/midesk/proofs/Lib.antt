@@ -1,3 +1,1 @@
-pub mod Row
-pub mod RoundTrip
 pub mod Stops

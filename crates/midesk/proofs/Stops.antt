@@ -33,7 +33,7 @@ use Rattle.machine.specs.Operands.{Fields, virtual, past, fieldsAt, keepsRules,
 use Rattle.machine.specs.Commands.{popped, commonDone, knownOr12, Allowed, both, only, allowedInKernelMode, Completion, done, ofMode, completionOf, KernelEffect, halts, resumes, kernelEffect, commandBy, kernelCommand}
 use Rattle.machine.specs.Steps.{Outcome, Plan, continues, enters, stop, halt, completed, enterIf, concluded, userStep, resume, kernelWritten, ofKernelCommand, kernelStep, oneStep}
 use Rattle.machine.specs.Calls.{refusalNumber, zeroDesk, freshDesk, freshReply, freshRefusal, freshOf, unchanged, unlessRefused, stepRefusal, stepOutcome, requestRefusal, requestOutcome, Ran, ran, stepsOf, runUnless, runOf}
-use Rattle.midesk.specs.Layout.{runs, markNumber, markOf, unpacked}
+use Rattle.layout.specs.Layout.{runs, markNumber, markOf, unpacked}
 
 -- ---- Every alarm has a number of document 01
 
@@ -57,11 +57,11 @@ lookup true true false d x f = omega arith
 lookup true true true false x f = omega arith
 lookup true true true true x f = tt
 
-seen : (s : ℕ) (base : RealAddress) (entries : ℕ) (m : Memory) (x : VirtualAddress) (w : Access) → Numbered (viewBy s base entries m x w)
+seen : (s : ℕ) (map : Map) (m : Memory) (x : VirtualAddress) (w : Access) → Numbered (viewBy s map m x w)
 unfolding viewBy mapped unmapped
-seen s base entries m x w = go (userMode s)
+seen s map m x w = go (userMode s)
   where
-    go : (t : Bool) → Numbered (pick t (mapped base entries m) (unmapped m) x w)
+    go : (t : Bool) → Numbered (pick t (mapped map m) (unmapped m) x w)
     go true = lookup _ _ _ _ x _
     go false = picked Numbered (ltb (x .0) (length m)) _ _ tt (omega arith)
 
@@ -240,7 +240,7 @@ module _ (d : Desk) (told : Told (d .mark)) where
   one-step : (m : Memory) → Leaves (oneStep d m)
   unfolding oneStep userStep kernelStep
   one-step m =
-      let sees : (x : VirtualAddress) (w : Access) → Numbered (viewOf d m x w) = seen (d .status) (d .base) (d .entries) m in
+      let sees : (x : VirtualAddress) (w : Access) → Numbered (viewOf d m x w) = seen (d .status) (d .map) m in
       picked Leaves (userMode (d .status)) _ _ (concludes (systemBlockOf d m) _) (kernel-ends m (viewOf d m) sees _ (commands (viewOf d m) sees (d .registers) (flagsOf (d .status))))
 
   unless : (a : Answer) (o : Outcome) → Leaves o → Leaves (unlessRefused a d o)

@@ -6,7 +6,7 @@ use Rattle.machine.specs.declared.StepAnswer.the-variants as stepAnswer
 use Rattle.machine.specs.declared.Reply.{Reply}
 use Rattle.machine.specs.Words.{Memory}
 use Rattle.machine.specs.Calls.{refusalNumber, answerNumber, freshOf, Stepped, stepOf, requestOf, Ran, runOf}
-use Rattle.midesk.specs.Layout.{packed, unpacked}
+use Rattle.layout.specs.Layout.{packed, unpacked}
 
 -- A call that leaves the memory alone: its answer is the number of its refusal, 0 where it was carried out
 

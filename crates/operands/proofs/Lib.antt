@@ -1,3 +1,2 @@
-mod Forms
-mod Remaining
-mod Taking
+pub mod Remaining
+pub mod Taking

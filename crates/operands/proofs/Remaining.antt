@@ -15,26 +15,27 @@ use Rattle.machine.specs.State.{Registers}
 use Rattle.machine.specs.Alarms.{OrAlarm, got, alarm, _>>=_}
 use Rattle.machine.specs.Map.{View}
 use Rattle.machine.specs.Operands.{operandAt, Taken, taken, takenBy, Operands, withTaken, operandsFrom, operandsOf}
-use Rattle.codes.specs.Rules.{sizeIn, roleIn, rulesFrom, rulesIn}
-use Rattle.operands.specs.declared.Spot.{Spot}
-use Rattle.operands.specs.declared.Spot.the-variants as spot
-use Rattle.operands.specs.declared.Took.{Took}
-use Rattle.operands.specs.declared.Took.the-variants as took
-use Rattle.operands.specs.Answers.{spotAs, takenFrom, tookAs}
+use Rattle.rules.specs.Rules.{sizeIn, roleIn, rulesFrom, rulesIn}
+use Rattle.forms.specs.declared.Location.{Location}
+use Rattle.forms.specs.declared.Location.the-variants as spot
+use Rattle.operands.specs.declared.Taken.{Taken}
+use Rattle.operands.specs.declared.Taken.the-variants as took
+use Rattle.forms.specs.Answers.{locationAs}
+use Rattle.operands.specs.Answers.{takenFrom, takenAs}
 
 -- one operand, and what follows it
 module _ (v : View) (place L : ℕ) (role : Role) (then : Taken → Registers → OrAlarm Operands) where
-  one : Spot → Registers → OrAlarm Operands
-  one p r = spotAs p r >>= (λ q. takenBy v place L q role >>= (λ t. then t (q .registers)))
+  one : Location → Registers → OrAlarm Operands
+  one p r = locationAs p r >>= (λ q. takenBy v place L q role >>= (λ t. then t (q .registers)))
 
-  one-taken : (p : Spot) (r : Registers) (n : ℕ) (t : Target) → taken n t ≡ takenFrom v place L role (spotAs p r) → one p r ≡ then (record { number = n; target = t }) r
+  one-taken : (p : Location) (r : Registers) (n : ℕ) (t : Target) → taken n t ≡ takenFrom v place L role (locationAs p r) → one p r ≡ then (record { number = n; target = t }) r
   unfolding one
   one-taken (spot.Immediate z) r n t h = rw (← h)
   one-taken (spot.Register x) r n t h = rw (← h)
   one-taken (spot.Memory a) r n t h = rw (← h)
   one-taken (spot.Alarm k x) r n t h = let z : _≡_ {A = ℕ} 0 1 = cc in absurd (omega arith)
 
-  one-alarm : (p : Spot) (r : Registers) (n x : ℕ) → alarm n x ≡ takenFrom v place L role (spotAs p r) → one p r ≡ alarm n x
+  one-alarm : (p : Location) (r : Registers) (n x : ℕ) → alarm n x ≡ takenFrom v place L role (locationAs p r) → one p r ≡ alarm n x
   unfolding one
   one-alarm (spot.Immediate z) r n x h = rw (← h)
   one-alarm (spot.Register y) r n x h = rw (← h)
@@ -62,8 +63,8 @@ module _ (v : View) (place rules : ℕ) (o : Operands) (whole : OrAlarm Operands
   unfolding operandsFrom
   none-left e = rw (e, no-rules) at (l .same)
 
-  module _ (more : 0 < rules) (size : Size) (of-size : size ≡ sizeIn rules) (role : Role) (of-role : role ≡ roleIn rules) (p : Spot) (r : Registers)
-      (found : spotAs p r ≡ operandAt v place (lengthOf size) (o .registers)) (t : Took) (took-it : tookAs t ≡ takenFrom v place (lengthOf size) role (spotAs p r)) where
+  module _ (more : 0 < rules) (size : Size) (of-size : size ≡ sizeIn rules) (role : Role) (of-role : role ≡ roleIn rules) (p : Location) (r : Registers)
+      (found : locationAs p r ≡ operandAt v place (lengthOf size) (o .registers)) (t : Taken) (took-it : takenAs t ≡ takenFrom v place (lengthOf size) role (locationAs p r)) where
     -- what follows the operand, by k rules at most
     after : ℕ → Taken → Registers → OrAlarm Operands
     after k n r = operandsFrom v (suc place) (rulesFrom k (rules / 16)) (withTaken place o n r)

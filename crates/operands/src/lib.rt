@@ -1,185 +1,36 @@
-// The operands of a command: the nine forms, their rules, and what a role takes from each.
+// The operands of a command, left to right: what each one's role takes from it.
 ghost use mathlib.Core.Path.{_≡_};
-ghost use mathlib.Core.Bool.{not, _&&_};
-ghost use Prim.Native.Nat.{_*_, _<_};
+ghost use Prim.Native.Nat.{_<_};
 ghost use lib.Dec.{eqb};
-ghost use Rattle.machine.specs.Words.{pick, lengthOf, wrap, raised, lowered};
-ghost use Rattle.machine.specs.Map.{viewBy, readBytes};
-ghost use Rattle.machine.specs.Operands.{virtual, immediate, formed, operandAt, operandsOf};
-ghost use Rattle.access.specs.Answers.{Fits, gotAs, FetchedFrom};
-ghost use Rattle.operands.specs.Answers.{spotAs, SmallSpot, Behind, tookAs, SmallTarget, SmallTook, takenWith, takenFrom, TakesFrom, TakesRegister, writtenBy, TakesMemory, operandsAs, SmallOperands};
-ghost use Rattle.codes.specs.Rules.{rulesIn};
-use access::Got;
-use access::OperandBytes;
-use machine::Access;
+ghost use Rattle.forms.specs.Answers.{SmallLocation, SmallTarget, locationAs};
+ghost use Rattle.lookup.specs.Answers.{FetchedFrom, Fits};
+ghost use Rattle.machine.specs.Map.{readBytes, viewBy};
+ghost use Rattle.machine.specs.Operands.{immediate, operandAt, operandsOf};
+ghost use Rattle.machine.specs.Words.{lengthOf, pick};
+ghost use Rattle.operands.specs.Answers.{SmallOperands, SmallTaken, TakesFrom, TakesMemory, TakesRegister, operandsAs, takenAs, takenFrom, takenWith, writtenBy};
+ghost use Rattle.reads.specs.Answers.{gotAs};
+ghost use Rattle.rules.specs.Rules.{rulesIn};
+use fetches::OperandBytes;
+use forms::Location;
+use machine::Alarm;
+use machine::Map;
 use machine::RealAddress;
 use machine::Role;
 use machine::Size;
 use machine::Target;
 use machine::VirtualAddress;
-
-// Where an operand is, or an alarm and its argument.
-pub enum Spot {
-    Immediate(u32),
-    Register(u32),
-    Memory(VirtualAddress),
-    Alarm(u32, u32),
-}
+use reads::Got;
 
 // What one operand gives, or an alarm and its argument.
-pub enum Took {
+pub enum Taken {
     Got(u32, Target),
-    Alarm(u32, u32),
+    Alarm(u32, Alarm),
 }
 
 // What all operands give: the first's and the second's number, and where the last one's result goes; or an alarm and its argument.
 pub enum Operands {
     Ready(u32, u32, Target),
-    Alarm(u32, u32),
-}
-
-// ---- Addresses and register steps wrap.
-
-pub fn plus(a: u32, b: u32) -> u32
-    ensures { λ r. ⌜ r ≡ raised a b ⌝ }
-{
-    std::num::wrapping_add_u32(a, b)
-}
-
-pub fn minus(a: u32, b: u32) -> u32
-    ensures { λ r. ⌜ r ≡ lowered a b ⌝ }
-{
-    std::num::wrapping_sub_u32(a, b)
-}
-
-// A word as an address.
-fn address(a: u32) -> VirtualAddress
-    ensures { λ r. ⌜ r ≡ virtual a ⌝ }
-{
-    VirtualAddress(a)
-}
-
-// A register times L.
-fn scaled(a: u32, size: Size) -> u32
-    ensures { λ r. ⌜ r ≡ wrap (a * lengthOf size) ⌝ }
-{
-    match size {
-        Size::B => a,
-        Size::H => ((a as u64) * 2 % 4294967296) as u32,
-        Size::W => ((a as u64) * 4 % 4294967296) as u32,
-    }
-}
-
-// ---- Forms
-
-// A place behind a word of memory.
-fn behind(w: Got, more: u32) -> Spot
-    ensures { λ r. ⌜ Behind r w more ⌝ }
-{
-    match w {
-        Got::Value(a) => Spot::Memory(VirtualAddress(plus(a, more))),
-        Got::Alarm(n, a) => Spot::Alarm(n, a),
-    }
-}
-
-// Forms 7 and 8 exclude x = 15 and use neither y nor z.
-fn can_step(x: u32, y: u32, z: u32) -> bool
-    ensures { λ r. ⌜ r ≡ (not (eqb x 15) && eqb y 0 && eqb z 0) ⌝ }
-{
-    (x != 15) & (y == 0) & (z == 0)
-}
-
-// The operand that the fields name, over registers with R15 past them; form rules are tried first.
-fn by_form(
-    mem: &[u8],
-    regs: &mut [u32; 16],
-    status: u32,
-    base: RealAddress,
-    entries: u32,
-    size: Size,
-    place: u32,
-    form: u32,
-    x: u32,
-    y: u32,
-    z: u32,
-) -> Spot
-    requires { ⌜ Fits base entries (now mem) × ((x < 16) × (y < 16)) ⌝ }
-    ensures spot { λ r. ⌜ spotAs r (now (regs .exit)) ≡ formed (viewBy status base entries (now (mem .entry))) place (lengthOf size) (now (regs .entry)) (record { form = form; x = x; y = y; z = z }) ⌝ }
-    ensures small { λ r. ⌜ SmallSpot r ⌝ }
-{
-    let i = x as usize;
-    let j = y as usize;
-    let rx = regs[i];
-    let ry = regs[j];
-    match form {
-        0 => {
-            if x == 0 && y == 0 {
-                return Spot::Memory(address(z));
-            }
-            Spot::Alarm(14, place)
-        }
-        1 => {
-            if x == 0 && y == 0 && (z as u64) < integers::span_of(size) {
-                return Spot::Immediate(z);
-            }
-            Spot::Alarm(14, place)
-        }
-        2 => {
-            if y == 0 && z == 0 {
-                return Spot::Register(x);
-            }
-            Spot::Alarm(14, place)
-        }
-        3 => {
-            if y == 0 {
-                return Spot::Memory(VirtualAddress(plus(z, rx)));
-            }
-            Spot::Alarm(14, place)
-        }
-        4 => Spot::Memory(VirtualAddress(plus(plus(z, rx), scaled(ry, size)))),
-        5 => {
-            if y == 0 {
-                let w = access::read(
-                    mem,
-                    status,
-                    base,
-                    entries,
-                    VirtualAddress(plus(z, rx)),
-                    Size::W,
-                );
-                return behind(w, 0);
-            }
-            Spot::Alarm(14, place)
-        }
-        6 => {
-            let w = access::read(
-                mem,
-                status,
-                base,
-                entries,
-                VirtualAddress(plus(z, rx)),
-                Size::W,
-            );
-            behind(w, scaled(ry, size))
-        }
-        7 => {
-            if can_step(x, y, z) {
-                let a = minus(rx, size.length());
-                regs[i] = a;
-                return Spot::Memory(VirtualAddress(a));
-            }
-            Spot::Alarm(14, place)
-        }
-        8 => {
-            if can_step(x, y, z) {
-                let a = plus(rx, size.length());
-                regs[i] = a;
-                return Spot::Memory(address(rx));
-            }
-            Spot::Alarm(14, place)
-        }
-        _ => Spot::Alarm(14, place),
-    }
+    Alarm(u32, Alarm),
 }
 
 // The operand whose six bytes begin at R15, of the command whose byte was fetched from start and lies at found.
@@ -187,28 +38,26 @@ fn operand(
     mem: &[u8],
     regs: &mut [u32; 16],
     status: u32,
-    base: RealAddress,
-    entries: u32,
+    map: Map,
     start: VirtualAddress,
     found: RealAddress,
     size: Size,
     place: u32,
-) -> Spot
-    requires { ⌜ Fits base entries (now mem) × FetchedFrom (viewBy status base entries (now mem)) (now mem) start found ⌝ }
-    ensures spot { λ r. ⌜ spotAs r (now (regs .exit)) ≡ operandAt (viewBy status base entries (now (mem .entry))) place (lengthOf size) (now (regs .entry)) ⌝ }
-    ensures small { λ r. ⌜ SmallSpot r ⌝ }
+) -> Location
+    requires { ⌜ Fits map (now mem) × FetchedFrom (viewBy status map (now mem)) (now mem) start found ⌝ }
+    ensures spot { λ r. ⌜ locationAs r (now (regs .exit)) ≡ operandAt (viewBy status map (now (mem .entry))) place (lengthOf size) (now (regs .entry)) ⌝ }
+    ensures small { λ r. ⌜ SmallLocation r ⌝ }
 {
     let pc = regs[15];
-    let f = access::fields(mem, status, base, entries, VirtualAddress(pc), start, found);
+    let f = fetches::fields(mem, status, map, VirtualAddress(pc), start, found);
     match f {
         OperandBytes::Fields(form, pair, z) => {
-            regs[15] = plus(pc, 6);
-            by_form(
+            regs[15] = words::plus(pc, 6);
+            forms::by_form(
                 mem,
                 regs,
                 status,
-                base,
-                entries,
+                map,
                 size,
                 place,
                 form,
@@ -217,72 +66,65 @@ fn operand(
                 z,
             )
         }
-        OperandBytes::Alarm(n, a) => Spot::Alarm(n, a),
+        OperandBytes::Alarm(a, n) => Location::Alarm(a, n),
     }
 }
 
 // ---- What a role takes
 
 // What is taken from the value of an operand, with a target.
-fn with_value(v: Got, t: Target) -> Took
+fn with_value(v: Got, t: Target) -> Taken
     requires { ⌜ SmallTarget t ⌝ }
-    ensures value { λ r. ⌜ tookAs r ≡ takenWith (gotAs v) t ⌝ }
-    ensures small { λ r. ⌜ SmallTook r ⌝ }
+    ensures value { λ r. ⌜ takenAs r ≡ takenWith (gotAs v) t ⌝ }
+    ensures small { λ r. ⌜ SmallTaken r ⌝ }
 {
     match v {
-        Got::Value(n) => Took::Got(n, t),
-        Got::Alarm(n, a) => Took::Alarm(n, a),
+        Got::Value(n) => Taken::Got(n, t),
+        Got::Alarm(a, n) => Taken::Alarm(a, n),
     }
 }
 
 // From an immediate value. It is no destination and has no address.
-fn take_immediate(role: Role, place: u32, z: u32) -> Took
+fn take_immediate(role: Role, place: u32, z: u32) -> Taken
     ensures value { λ r. ⌜ TakesFrom r place role (immediate z) ⌝ }
-    ensures small { λ r. ⌜ SmallTook r ⌝ }
+    ensures small { λ r. ⌜ SmallTaken r ⌝ }
 {
     match role {
-        Role::Value => Took::Got(z, Target::Nowhere),
-        Role::Address => Took::Alarm(14, place),
-        Role::Destination => Took::Alarm(14, place),
-        Role::Update => Took::Alarm(14, place),
+        Role::Value => Taken::Got(z, Target::Nowhere),
+        Role::Address => Taken::Alarm(place, Alarm::Operand),
+        Role::Destination => Taken::Alarm(place, Alarm::Operand),
+        Role::Update => Taken::Alarm(place, Alarm::Operand),
     }
 }
 
 // From register x, in which the operand's value is n.
-fn take_register(role: Role, place: u32, x: u32, n: u32) -> Took
+fn take_register(role: Role, place: u32, x: u32, n: u32) -> Taken
     requires { ⌜ x < 16 ⌝ }
     ensures value { λ r. ⌜ TakesRegister r place role x n ⌝ }
-    ensures small { λ r. ⌜ SmallTook r ⌝ }
+    ensures small { λ r. ⌜ SmallTaken r ⌝ }
 {
     match role {
-        Role::Value => Took::Got(n, Target::Nowhere),
-        Role::Address => Took::Alarm(14, place), // a register has none
-        Role::Destination => Took::Got(0, Target::Register(x)),
-        Role::Update => Took::Got(n, Target::Register(x)),
+        Role::Value => Taken::Got(n, Target::Nowhere),
+        Role::Address => Taken::Alarm(place, Alarm::Operand), // a register has none
+        Role::Destination => Taken::Got(0, Target::Register(x)),
+        Role::Update => Taken::Got(n, Target::Register(x)),
     }
 }
 
 // The value of a size at an address. Words are read in place, since they are most frequent.
-fn read(
-    mem: &[u8],
-    status: u32,
-    base: RealAddress,
-    entries: u32,
-    a: VirtualAddress,
-    size: Size,
-) -> Got
-    requires { ⌜ Fits base entries (now mem) ⌝ }
-    ensures { λ r. ⌜ gotAs r ≡ readBytes (viewBy status base entries (now (mem .entry))) Access.Read (lengthOf size) a ⌝ }
+fn read(mem: &[u8], status: u32, map: Map, a: VirtualAddress, size: Size) -> Got
+    requires { ⌜ Fits map (now mem) ⌝ }
+    ensures { λ r. ⌜ gotAs r ≡ readBytes (viewBy status map (now (mem .entry))) Access.Read (lengthOf size) a ⌝ }
 {
     match size {
-        Size::W => access::read_word(mem, status, base, entries, a),
+        Size::W => reads::read_word(mem, status, map, a),
         _ => {
             // The slice and the answer of this call alone go through memory.
             let all = mem;
-            let w = access::read(all, status, base, entries, a, size);
+            let w = reads::read(all, status, map, a, size);
             match w {
                 Got::Value(v) => Got::Value(v),
-                Got::Alarm(n, x) => Got::Alarm(n, x),
+                Got::Alarm(x, n) => Got::Alarm(x, n),
             }
         }
     }
@@ -305,24 +147,23 @@ fn written(role: Role, a: VirtualAddress) -> Target
 fn take_memory(
     mem: &[u8],
     status: u32,
-    base: RealAddress,
-    entries: u32,
+    map: Map,
     size: Size,
     role: Role,
     a: VirtualAddress,
-) -> Took
-    requires { ⌜ Fits base entries (now mem) ⌝ }
-    ensures value { λ r. ⌜ TakesMemory r (viewBy status base entries (now (mem .entry))) (lengthOf size) role a ⌝ }
-    ensures small { λ r. ⌜ SmallTook r ⌝ }
+) -> Taken
+    requires { ⌜ Fits map (now mem) ⌝ }
+    ensures value { λ r. ⌜ TakesMemory r (viewBy status map (now (mem .entry))) (lengthOf size) role a ⌝ }
+    ensures small { λ r. ⌜ SmallTaken r ⌝ }
 {
     let goes = written(role, a);
     match role {
         Role::Value => {}
-        Role::Address => return Took::Got(a.0, goes),
-        Role::Destination => return Took::Got(0, goes),
+        Role::Address => return Taken::Got(a.0, goes),
+        Role::Destination => return Taken::Got(0, goes),
         Role::Update => {}
     }
-    let v = read(mem, status, base, entries, a, size);
+    let v = read(mem, status, map, a, size);
     with_value(v, goes)
 }
 
@@ -331,26 +172,25 @@ fn take(
     mem: &[u8],
     regs: &[u32; 16],
     status: u32,
-    base: RealAddress,
-    entries: u32,
+    map: Map,
     size: Size,
     role: Role,
     place: u32,
-    spot: Spot,
-) -> Took
-    requires { ⌜ Fits base entries (now mem) × SmallSpot spot ⌝ }
-    ensures value { λ r. ⌜ tookAs r ≡ takenFrom (viewBy status base entries (now (mem .entry))) place (lengthOf size) role (spotAs spot (now (regs .entry))) ⌝ }
-    ensures small { λ r. ⌜ SmallTook r ⌝ }
+    spot: Location,
+) -> Taken
+    requires { ⌜ Fits map (now mem) × SmallLocation spot ⌝ }
+    ensures value { λ r. ⌜ takenAs r ≡ takenFrom (viewBy status map (now (mem .entry))) place (lengthOf size) role (locationAs spot (now (regs .entry))) ⌝ }
+    ensures small { λ r. ⌜ SmallTaken r ⌝ }
 {
     match spot {
-        Spot::Immediate(z) => take_immediate(role, place, z),
-        Spot::Register(x) => {
+        Location::Immediate(z) => take_immediate(role, place, z),
+        Location::Register(x) => {
             let i = x as usize;
             let n = integers::low(size, regs[i]);
             take_register(role, place, x, n)
         }
-        Spot::Memory(a) => take_memory(mem, status, base, entries, size, role, a),
-        Spot::Alarm(n, a) => Took::Alarm(n, a),
+        Location::Memory(a) => take_memory(mem, status, map, size, role, a),
+        Location::Alarm(a, n) => Taken::Alarm(a, n),
     }
 }
 
@@ -368,34 +208,34 @@ pub fn take_all(
     mem: &[u8],
     regs: &mut [u32; 16],
     status: u32,
-    base: RealAddress,
-    entries: u32,
+    map: Map,
     start: VirtualAddress,
     found: RealAddress,
     rules: u32,
 ) -> Operands
-    requires { ⌜ Fits base entries (now mem) × FetchedFrom (viewBy status base entries (now mem)) (now mem) start found × (rules < 65536) ⌝ }
-    ensures value { λ r. ⌜ operandsAs r (now (regs .exit)) ≡ operandsOf (viewBy status base entries (now (mem .entry))) (rulesIn rules) (now (regs .entry)) ⌝ }
+    requires { ⌜ Fits map (now mem) × FetchedFrom (viewBy status map (now mem)) (now mem) start found × (rules < 65536) ⌝ }
+    ensures value { λ r. ⌜ operandsAs r (now (regs .exit)) ≡ operandsOf (viewBy status map (now (mem .entry))) (rulesIn rules) (now (regs .entry)) ⌝ }
     ensures small { λ r. ⌜ SmallOperands r ⌝ }
 {
     let mut first: u32 = 0;
     let mut second: u32 = 0;
     let mut target = Target::Nowhere;
     let mut place: u32 = 1;
+    let count = rules::count_in(rules);
     let mut rest = rules;
-    while 0 < rest {
-        let size = codes::size_in(rest);
-        let role = codes::role_in(rest);
-        let spot = operand(mem, regs, status, base, entries, start, found, size, place);
-        let t = take(mem, regs, status, base, entries, size, role, place, spot);
+    while place <= count {
+        let size = rules::size_in(rest);
+        let role = rules::role_in(rest);
+        let spot = operand(mem, regs, status, map, start, found, size, place);
+        let t = take(mem, regs, status, map, size, role, place, spot);
         match t {
-            Took::Got(n, goes) => {
+            Taken::Got(n, goes) => {
                 first = chosen(place, 1, n, first);
                 second = chosen(place, 2, n, second);
                 target = goes;
             }
-            Took::Alarm(n, a) => {
-                return Operands::Alarm(n, a);
+            Taken::Alarm(a, n) => {
+                return Operands::Alarm(a, n);
             }
         }
         place += 1;

@@ -29,7 +29,7 @@ returns c =
     let byte = mode .before .before .c2 .given .1 in
     let fetched = mode .before .before .before .before .fetch .ensures in
     let a = mode .before .before .before .before .before .before .before .before .args in
-    exec-forbidden (a .status) (a .base) (a .entries) (a .regs .now) (a .mem .now) _ (rw byte at (fetched .0)) (rw byte at (fetched .1 .0)) (sym (mode .forbidden .ensures) ∙ c .if1 .taken)
+    exec-forbidden (a .status) (a .map) (a .regs .now) (a .mem .now) _ (rw byte at (fetched .0)) (rw byte at (fetched .1 .0)) (sym (mode .forbidden .ensures) ∙ c .if1 .taken)
 
 plus-requires : tie.Need-plus-requires
 plus-requires c κs = search needs
@@ -65,7 +65,7 @@ same-length-2 c = search needs
 returns-2 : tie.Need-returns-2
 returns-2 c =
     let a = c .before .before .before .before .before .before .before .args in
-    exec-unfetched (a .status) (a .base) (a .entries) (a .regs .now) (a .mem .now) _ _ (rw (c .before .c .given .1) at (c .before .before .before .fetch .ensures .0))
+    exec-unfetched (a .status) (a .map) (a .regs .now) (a .mem .now) _ _ (rw (c .before .c .given .1) at (c .before .before .before .fetch .ensures .0))
 
 same-length-3 : tie.Need-same-length-3
 same-length-3 c = search needs
@@ -76,7 +76,7 @@ returns-3 c =
     let byte = mode .before .before .c2 .given .1 in
     let fetched = mode .before .before .before .before .fetch .ensures in
     let a = mode .before .before .before .before .before .before .before .before .args in
-    exec-alarm (a .status) (a .base) (a .entries) (a .regs .now) (a .mem .now) _ (rw byte at (fetched .0)) (rw byte at (fetched .1 .0)) (sym (mode .forbidden .ensures) ∙ c .before .before .before .before .before .before .before .before .if1 .left) _ _
+    exec-alarm (a .status) (a .map) (a .regs .now) (a .mem .now) _ (rw byte at (fetched .0)) (rw byte at (fetched .1 .0)) (sym (mode .forbidden .ensures) ∙ c .before .before .before .before .before .before .before .before .if1 .left) _ _
     (rw (c .before .o .given .1, c .before .before .before .before .before .before .rules-of .ensures .0, c .before .before .before .before .before .before .before .plus .ensures) at (c .before .before .before .take-all .ensures .0))
 
 same-length-4 : tie.Need-same-length-4
@@ -90,7 +90,7 @@ returns-4 c =
     let a = mode .before .before .before .before .before .before .before .before .args in
     c .before .before .finish .ensures
     ∙ rw (c .before .before .before .before .before .action-of .ensures)
-    (exec-action (a .status) (a .base) (a .entries) (a .regs .now) (a .mem .now) _ (rw byte at (fetched .0)) (rw byte at (fetched .1 .0)) (sym (mode .forbidden .ensures) ∙ c .before .before .before .before .before .before .before .before .before .before .before .before .before .before .if1 .left) _
+    (exec-action (a .status) (a .map) (a .regs .now) (a .mem .now) _ (rw byte at (fetched .0)) (rw byte at (fetched .1 .0)) (sym (mode .forbidden .ensures) ∙ c .before .before .before .before .before .before .before .before .before .before .before .before .before .before .if1 .left) _
     (rw (c .before .before .before .before .before .before .before .o2 .given .1, c .before .before .before .before .before .before .before .before .before .before .before .before .rules-of .ensures .0, c .before .before .before .before .before .before .before .before .before .before .before .before .before .plus .ensures) at (c .before .before .before .before .before .before .before .before .before .take-all .ensures .0)))
 
 pub exec-spec : {M : Type 1} → statement M

@@ -2,7 +2,7 @@
 use borrow.Author.Tests.{lt-leb, le-leb}
 use borrow.Author.Needs.{needs}
 use Rattle.machine.specs.Calls.{firstRefused, passes5, passes6, unchanged, unlessRefused, requestRefusal, requestOutcome, requestOf}
-use Rattle.desk.proofs.Tests.{fails, holds}
+use Rattle.checks.proofs.Tests.{fails, holds}
 use Rattle.desk.proofs.request.Statement.{statement}
 use Rattle.desk.proofs.request.Tie as tie
 

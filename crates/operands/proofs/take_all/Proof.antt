@@ -3,24 +3,24 @@ use native.Mathlib.Omega.{arith}
 use borrow.Author.Needs.{needs}
 use Rattle.machine.specs.Operands.{withTaken, operandsOf}
 use Rattle.machine.specs.Map.{viewBy}
-use Rattle.codes.specs.Rules.{rulesIn}
-use Rattle.operands.specs.Answers.{SmallTarget}
+use Rattle.rules.specs.Rules.{rulesIn}
+use Rattle.forms.specs.Answers.{SmallTarget}
 use Rattle.operands.proofs.Remaining.{Left, all-left, none-left, next-alarm, next-left}
 use Rattle.operands.proofs.take_all.Statement.{statement}
 use Rattle.operands.proofs.take_all.Tie as tie
 
 abbrev Inv-loop : tie.InvT-loop
-Inv-loop mem regs₀ status base entries start found rules first₀ second₀ target₀ place₀ rest₀ regs first second target place rest =
+Inv-loop mem regs₀ status map start found rules first₀ second₀ target₀ place₀ rest₀ regs first second target place rest =
     Left
-    (viewBy status base entries mem)
+    (viewBy status map mem)
     place
     rest
     (record { first = first; second = second; target = target; registers = regs })
-    (operandsOf (viewBy status base entries mem) (rulesIn rules) regs₀)
+    (operandsOf (viewBy status map mem) (rulesIn rules) regs₀)
     × SmallTarget target
 
 abbrev μ-loop : tie.MeasureT-loop
-μ-loop mem regs₀ status base entries start found rules first₀ second₀ target₀ place₀ rest₀ regs first second target place rest =
+μ-loop mem regs₀ status map start found rules first₀ second₀ target₀ place₀ rest₀ regs first second target place rest =
     rest
 
 loop-holds : tie.Need-loop-holds Inv-loop μ-loop

@@ -1,5 +1,0 @@
-mod Cases
-mod Lookups
-mod Reading
-mod OneLookup
-mod Storing

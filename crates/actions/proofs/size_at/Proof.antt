@@ -1,0 +1,25 @@
+-- `size_at` is right: a number that is neither 0 nor 1 is two more than some number.
+use Prim.Native.Nat.{ℕ, zero, suc}
+use mathlib.Core.Path.{_≡_, refl}
+use borrow.Author.Needs.{needs}
+use Rattle.machine.specs.declared.Size.the-variants.{W}
+use Rattle.machine.specs.Words.{sizeAt}
+use Rattle.actions.proofs.size_at.Statement.{statement}
+use Rattle.actions.proofs.size_at.Tie as tie
+
+word : (k : ℕ) → (k ≡ 0 → ⊥) → (k ≡ 1 → ⊥) → W ≡ sizeAt k
+word zero p q = absurd (p refl)
+word (suc zero) p q = absurd (q refl)
+word (suc (suc k)) p q = refl
+
+returns : tie.Need-returns
+returns c = search needs
+
+returns-2 : tie.Need-returns-2
+returns-2 c = search needs
+
+returns-3 : tie.Need-returns-3
+returns-3 c = word _ (c .match .rest .0 .1) (c .match .rest .1)
+
+pub size-at-spec : {M : Type 1} → statement M
+size-at-spec = tie.close (tie.spec returns returns-2 returns-3)

@@ -1,0 +1,53 @@
+-- `fetch` is right: a command byte is a value of one byte, and what a slice of bytes holds is below 256.
+use mathlib.Core.Path.{_∙_, sym, ap}
+use native.Mathlib.Omega.{arith}
+use borrow.Author.Needs.{needs}
+use Rattle.machine.specs.Alarms.{got}
+use Rattle.machine.proofs.Pages.{read-alarm}
+use Rattle.lookup.proofs.Lookups.{look-found, look-alarm, look-inside}
+use Rattle.words.proofs.Values.{one-byte-value}
+use Rattle.reads.proofs.OnePage.{read-page}
+use Rattle.fetches.proofs.fetch.Statement.{statement}
+use Rattle.fetches.proofs.fetch.Tie as tie
+
+look-requires : tie.Need-look-requires
+look-requires c κs = search needs
+
+enum-known-s : tie.Need-enum-known-s
+enum-known-s c = search needs
+
+cast-at : tie.Need-cast-at
+cast-at c = search needs
+
+shared-slice-read-wide : tie.Need-shared-slice-read-wide
+shared-slice-read-wide c = look-inside _ _ _ _ _ _ _ _ (c .before .before .before .s .given .1) (c .before .before .before .before .before .look .ensures)
+
+wide-requires : tie.Need-wide-requires
+wide-requires c κs = search needs
+
+enum-known-s-2 : tie.Need-enum-known-s-2
+enum-known-s-2 c = search needs
+
+returns : tie.Need-returns
+returns c =
+    let looked = c .before .before .before .before .before .before in
+    let found = look-found (c .before .before .before .before .s .given .1) (looked .look .ensures) (looked .before .before .pre) (omega arith) in
+    (ap got (c .wide .ensures .0 ∙ one-byte-value _ _) ∙ sym (read-page found 1 (omega arith)), (c .wide .ensures .1, record { hit = found .hit }))
+
+returns-2 : tie.Need-returns-2
+returns-2 c =
+    let stopped = look-alarm (c .before .s2 .given .1) (c .before .before .before .look .ensures) (omega arith) in
+    (sym (read-alarm stopped 1 0 (omega arith)), (tt, tt))
+
+pub fetch-spec : {M : Type 1} → statement M
+fetch-spec =
+    tie.close
+    (tie.spec
+    look-requires
+    enum-known-s
+    cast-at
+    shared-slice-read-wide
+    wide-requires
+    enum-known-s-2
+    returns
+    returns-2)

@@ -1,0 +1,38 @@
+-- What a fetch says, in the terms of `machine`.
+use Prim.Native.Nat.{ℕ, _+_, _/_, _%_, _<_}
+use Rattle.machine.specs.declared.VirtualAddress.{VirtualAddress}
+use Rattle.machine.specs.Words.{Memory, byteAt, wordAt}
+use Rattle.machine.specs.Alarms.{OrAlarm, got, alarm}
+use Rattle.machine.specs.Map.{View}
+use Rattle.machine.specs.Operands.{Fields}
+use Rattle.lookup.specs.Answers.{FetchedFrom}
+use Rattle.fetches.specs.declared.CommandByte.{CommandByte}
+use Rattle.fetches.specs.declared.CommandByte.the-variants as commandByte
+use Rattle.fetches.specs.declared.OperandBytes.{OperandBytes}
+use Rattle.fetches.specs.declared.OperandBytes.the-variants as operandBytes
+
+-- a command byte, wherever it lies
+abbrev pub commandByteAs : CommandByte → OrAlarm ℕ
+commandByteAs (commandByte.Byte b a) = got b
+commandByteAs (commandByte.Alarm x n) = alarm n x
+
+abbrev pub ByteOrAlarm : CommandByte → Type 0
+ByteOrAlarm (commandByte.Byte b a) = b < 256
+ByteOrAlarm (commandByte.Alarm x n) = Unit {0}
+
+abbrev pub PlaceOrAlarm : View → Memory → VirtualAddress → CommandByte → Type 0
+PlaceOrAlarm v m x (commandByte.Byte b a) = FetchedFrom v m x a
+PlaceOrAlarm v m x (commandByte.Alarm y n) = Unit {0}
+
+abbrev pub operandBytesAs : OperandBytes → OrAlarm Fields
+operandBytesAs (operandBytes.Fields f q z) = got (record { form = f; x = q / 16; y = q % 16; z = z })
+operandBytesAs (operandBytes.Alarm x n) = alarm n x
+
+-- the six bytes from place a of memory on
+abbrev pub operandBytesAt : Memory → ℕ → OperandBytes
+operandBytesAt m a = operandBytes.Fields (byteAt m a) (byteAt m (a + 1)) (wordAt m (a + 2))
+
+-- a register pair that was fetched is a byte
+abbrev pub PairOrAlarm : OperandBytes → Type 0
+PairOrAlarm (operandBytes.Fields f q z) = q < 256
+PairOrAlarm (operandBytes.Alarm x n) = Unit {0}

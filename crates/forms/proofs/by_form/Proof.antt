@@ -1,0 +1,234 @@
+-- `by_form` is right: each arm is one form, with its rule first; one wrap of an address serves for the wraps of its parts.
+use mathlib.Core.Logic.{⊎-elim}
+use native.Mathlib.Nat.{add-zero, mod-mod, mod-add-mod, add-mod-mod}
+use borrow.Author.Tests.{eq-eqb, ne-eqb, lt-leb}
+use borrow.Author.Needs.{needs}
+use Rattle.machine.specs.Operands.{keepsRules, byForm}
+use Rattle.forms.proofs.Forms.{no-form}
+use Rattle.forms.proofs.by_form.Statement.{statement}
+use Rattle.forms.proofs.by_form.Tie as tie
+
+mul-rx : tie.Need-mul-rx
+mul-rx c = search needs
+
+element-copy-out-rx : tie.Need-element-copy-out-rx
+element-copy-out-rx c = search needs
+
+mul-ry : tie.Need-mul-ry
+mul-ry c = search needs
+
+element-copy-out-ry : tie.Need-element-copy-out-ry
+element-copy-out-ry c = search needs
+
+address-requires : tie.Need-address-requires
+address-requires c κs = search needs
+
+returns : tie.Need-returns
+unfolding keepsRules byForm
+returns c = (simp (c .before .before .before .match .keys1, c .before .before .if1 .taken, c .before .if2 .taken, c .address .ensures), search needs)
+
+span-of-requires : tie.Need-span-of-requires
+span-of-requires c κs = search needs
+
+returns-2 : tie.Need-returns-2
+unfolding keepsRules byForm
+returns-2 c = (simp (c .before .before .before .before .match .keys2, c .before .before .before .if3 .taken, c .before .before .if4 .taken, c .if5 .taken, ← c .before .span-of .ensures .0), search needs)
+
+returns-3 : tie.Need-returns-3
+unfolding keepsRules byForm
+returns-3 c = (simp (c .before .before .match .keys3, eq-eqb _ _ (c .before .if6 .taken), c .if7 .taken), search needs)
+
+plus-requires : tie.Need-plus-requires
+plus-requires c κs = search needs
+
+returns-4 : tie.Need-returns-4
+unfolding keepsRules byForm
+returns-4 c = (simp (c .before .before .match .keys4, eq-eqb _ _ (c .before .if8 .taken), ← c .plus .ensures), search needs)
+
+plus-requires-2 : tie.Need-plus-requires-2
+plus-requires-2 c κs = search needs
+
+scaled-requires : tie.Need-scaled-requires
+scaled-requires c κs = search needs
+
+plus-requires-3 : tie.Need-plus-requires-3
+plus-requires-3 c κs = search needs
+
+plus-requires-4 : tie.Need-plus-requires-4
+plus-requires-4 c κs = search needs
+
+read-requires : tie.Need-read-requires
+read-requires c κs = search needs
+
+behind-requires : tie.Need-behind-requires
+behind-requires c κs = search needs
+
+returns-5 : tie.Need-returns-5
+unfolding keepsRules byForm
+returns-5 c =
+    let i = c .before .before .before in
+    (simp (i .before .match .keys6, eq-eqb _ _ (i .if9 .taken), c .behind .ensures .same, c .before .read .ensures, c .before .before .plus4 .ensures, add-zero), c .behind .ensures .small)
+
+plus-requires-5 : tie.Need-plus-requires-5
+plus-requires-5 c κs = search needs
+
+read-requires-2 : tie.Need-read-requires-2
+read-requires-2 c κs = search needs
+
+scaled-requires-2 : tie.Need-scaled-requires-2
+scaled-requires-2 c κs = search needs
+
+behind-requires-2 : tie.Need-behind-requires-2
+behind-requires-2 c κs = search needs
+
+can-step-requires : tie.Need-can-step-requires
+can-step-requires c κs = search needs
+
+length-requires : tie.Need-length-requires
+length-requires c κs = search needs
+
+minus-requires : tie.Need-minus-requires
+minus-requires c κs = search needs
+
+mul-regs : tie.Need-mul-regs
+mul-regs c = search needs
+
+element-write-regs : tie.Need-element-write-regs
+element-write-regs c = search needs
+
+returns-6 : tie.Need-returns-6
+unfolding keepsRules byForm
+returns-6 c =
+    let i = c .before .before in
+    (simp (i .before .before .match .keys8, ← i .before .can-step .ensures, i .if10 .taken, c .minus .ensures, c .before .length .ensures, mod-mod), search needs)
+
+can-step-requires-2 : tie.Need-can-step-requires-2
+can-step-requires-2 c κs = search needs
+
+length-requires-2 : tie.Need-length-requires-2
+length-requires-2 c κs = search needs
+
+plus-requires-6 : tie.Need-plus-requires-6
+plus-requires-6 c κs = search needs
+
+mul-regs-2 : tie.Need-mul-regs-2
+mul-regs-2 c = search needs
+
+element-write-regs-2 : tie.Need-element-write-regs-2
+element-write-regs-2 c = search needs
+
+address-requires-2 : tie.Need-address-requires-2
+address-requires-2 c κs = search needs
+
+returns-7 : tie.Need-returns-7
+unfolding keepsRules byForm
+returns-7 c =
+    let i = c .before .before .before in
+    (simp (i .before .before .match .keys9, ← i .before .can-step2 .ensures, i .if11 .taken, c .address2 .ensures, c .before .plus6 .ensures, c .before .before .length2 .ensures), search needs)
+
+returns-8 : tie.Need-returns-8
+unfolding keepsRules byForm
+returns-8 c =
+    ⊎-elim
+    (λ w. (simp (c .before .match .keys1, w .0 .taken, w .1 .left), search needs))
+    (λ w. (simp (c .before .match .keys1, ne-eqb _ _ (w .left)), search needs))
+    (c .if1 .came)
+
+returns-9 : tie.Need-returns-9
+unfolding keepsRules byForm
+returns-9 c =
+    ⊎-elim
+    (λ w. (simp (c .before .match .keys2, w .0 .taken, w .1 .taken, ← w .2 .ensures .0, w .3 .left), search needs))
+    (⊎-elim
+    (λ w. (simp (c .before .match .keys2, w .0 .taken, w .1 .left), search needs))
+    (λ w. (simp (c .before .match .keys2, ne-eqb _ _ (w .left)), search needs)))
+    (c .if3 .came)
+
+returns-10 : tie.Need-returns-10
+unfolding keepsRules byForm
+returns-10 c =
+    ⊎-elim
+    (λ w. (simp (c .before .match .keys3, w .0 .taken, w .1 .left), search needs))
+    (λ w. (simp (c .before .match .keys3, ne-eqb _ _ (w .left)), search needs))
+    (c .if6 .came)
+
+returns-11 : tie.Need-returns-11
+unfolding keepsRules byForm
+returns-11 c = (simp (c .before .match .keys4, ne-eqb _ _ (c .if8 .left)), search needs)
+
+returns-12 : tie.Need-returns-12
+unfolding keepsRules byForm
+returns-12 c = (simp (c .before .before .before .match .keys5, c .plus3 .ensures, c .before .scaled .ensures, c .before .before .plus2 .ensures, mod-add-mod, add-mod-mod), search needs)
+
+returns-13 : tie.Need-returns-13
+unfolding keepsRules byForm
+returns-13 c = (simp (c .before .match .keys6, ne-eqb _ _ (c .if9 .left)), search needs)
+
+returns-14 : tie.Need-returns-14
+unfolding keepsRules byForm
+returns-14 c = (simp (c .before .before .before .before .match .keys7, c .behind2 .ensures .same, c .before .scaled2 .ensures, c .before .before .read2 .ensures, c .before .before .before .plus5 .ensures, add-mod-mod), c .behind2 .ensures .small)
+
+returns-15 : tie.Need-returns-15
+unfolding keepsRules byForm
+returns-15 c = (simp (c .before .before .match .keys8, ← c .before .can-step .ensures, c .if10 .left), search needs)
+
+returns-16 : tie.Need-returns-16
+unfolding keepsRules byForm
+returns-16 c = (simp (c .before .before .match .keys9, ← c .before .can-step2 .ensures, c .if11 .left), search needs)
+
+returns-17 : tie.Need-returns-17
+unfolding keepsRules byForm
+returns-17 c =
+    let not = c .match .rest in
+    let above = no-form (c .before .before .before .before .args .form) (not .0 .0 .0 .0 .0 .0 .0 .0 .1) (not .0 .0 .0 .0 .0 .0 .0 .1) (not .0 .0 .0 .0 .0 .0 .1) (not .0 .0 .0 .0 .0 .1) (not .0 .0 .0 .0 .1) (not .0 .0 .0 .1) (not .0 .0 .1) (not .0 .1) (not .1) in
+    (simp (ne-eqb _ _ (not .0 .0 .0 .0 .0 .0 .0 .0 .1), ne-eqb _ _ (not .0 .0 .0 .0 .0 .0 .0 .1), ne-eqb _ _ (not .0 .0 .0 .0 .0 .0 .1), ne-eqb _ _ (not .0 .0 .0 .0 .0 .1), ne-eqb _ _ (not .0 .0 .0 .0 .1), ne-eqb _ _ (not .0 .0 .0 .1), ne-eqb _ _ (not .0 .0 .1), lt-leb _ 8 above), search needs)
+
+pub by-form-spec : {M : Type 1} → statement M
+by-form-spec =
+    tie.close
+    (tie.spec
+    mul-rx
+    element-copy-out-rx
+    mul-ry
+    element-copy-out-ry
+    address-requires
+    returns
+    span-of-requires
+    returns-2
+    returns-3
+    plus-requires
+    returns-4
+    plus-requires-2
+    scaled-requires
+    plus-requires-3
+    plus-requires-4
+    read-requires
+    behind-requires
+    returns-5
+    plus-requires-5
+    read-requires-2
+    scaled-requires-2
+    behind-requires-2
+    can-step-requires
+    length-requires
+    minus-requires
+    mul-regs
+    element-write-regs
+    returns-6
+    can-step-requires-2
+    length-requires-2
+    plus-requires-6
+    mul-regs-2
+    element-write-regs-2
+    address-requires-2
+    returns-7
+    returns-8
+    returns-9
+    returns-10
+    returns-11
+    returns-12
+    returns-13
+    returns-14
+    returns-15
+    returns-16
+    returns-17)

@@ -1,0 +1,148 @@
+// The nine forms of an operand and their rules: where an operand is.
+ghost use mathlib.Core.Path.{_≡_};
+ghost use mathlib.Core.Bool.{_&&_, not};
+ghost use Prim.Native.Nat.{_*_, _<_};
+ghost use lib.Dec.{eqb};
+ghost use Rattle.forms.specs.Answers.{Behind, SmallLocation, locationAs};
+ghost use Rattle.lookup.specs.Answers.{Fits};
+ghost use Rattle.machine.specs.Map.{viewBy};
+ghost use Rattle.machine.specs.Operands.{formed, virtual};
+ghost use Rattle.machine.specs.Words.{lengthOf, wrap};
+use machine::Alarm;
+use machine::Map;
+use machine::Size;
+use machine::VirtualAddress;
+use reads::Got;
+
+// Where an operand is, or an alarm and its argument.
+pub enum Location {
+    Immediate(u32),
+    Register(u32),
+    Memory(VirtualAddress),
+    Alarm(u32, Alarm),
+}
+
+// A word as an address.
+fn address(a: u32) -> VirtualAddress
+    ensures { λ r. ⌜ r ≡ virtual a ⌝ }
+{
+    VirtualAddress(a)
+}
+
+// A register times L.
+fn scaled(a: u32, size: Size) -> u32
+    ensures { λ r. ⌜ r ≡ wrap (a * lengthOf size) ⌝ }
+{
+    match size {
+        Size::B => a,
+        Size::H => ((a as u64) * 2 % 4294967296) as u32,
+        Size::W => ((a as u64) * 4 % 4294967296) as u32,
+    }
+}
+
+// A place behind a word of memory.
+fn behind(w: Got, more: u32) -> Location
+    ensures { λ r. ⌜ Behind r w more ⌝ }
+{
+    match w {
+        Got::Value(a) => Location::Memory(VirtualAddress(words::plus(a, more))),
+        Got::Alarm(a, n) => Location::Alarm(a, n),
+    }
+}
+
+// Forms 7 and 8 exclude x = 15 and use neither y nor z.
+fn can_step(x: u32, y: u32, z: u32) -> bool
+    ensures { λ r. ⌜ r ≡ (not (eqb x 15) && eqb y 0 && eqb z 0) ⌝ }
+{
+    (x != 15) & (y == 0) & (z == 0)
+}
+
+// The operand that the fields name, over registers with R15 past them; form rules are tried first.
+pub fn by_form(
+    mem: &[u8],
+    regs: &mut [u32; 16],
+    status: u32,
+    map: Map,
+    size: Size,
+    place: u32,
+    form: u32,
+    x: u32,
+    y: u32,
+    z: u32,
+) -> Location
+    requires { ⌜ Fits map (now mem) × ((x < 16) × (y < 16)) ⌝ }
+    ensures spot { λ r. ⌜ locationAs r (now (regs .exit)) ≡ formed (viewBy status map (now (mem .entry))) place (lengthOf size) (now (regs .entry)) (record { form = form; x = x; y = y; z = z }) ⌝ }
+    ensures small { λ r. ⌜ SmallLocation r ⌝ }
+{
+    let i = x as usize;
+    let j = y as usize;
+    let rx = regs[i];
+    let ry = regs[j];
+    match form {
+        0 => {
+            if x == 0 && y == 0 {
+                return Location::Memory(address(z));
+            }
+            Location::Alarm(place, Alarm::Operand)
+        }
+        1 => {
+            if x == 0 && y == 0 && (z as u64) < integers::span_of(size) {
+                return Location::Immediate(z);
+            }
+            Location::Alarm(place, Alarm::Operand)
+        }
+        2 => {
+            if y == 0 && z == 0 {
+                return Location::Register(x);
+            }
+            Location::Alarm(place, Alarm::Operand)
+        }
+        3 => {
+            if y == 0 {
+                return Location::Memory(VirtualAddress(words::plus(z, rx)));
+            }
+            Location::Alarm(place, Alarm::Operand)
+        }
+        4 => Location::Memory(VirtualAddress(words::plus(words::plus(z, rx), scaled(ry, size)))),
+        5 => {
+            if y == 0 {
+                let w = reads::read(
+                    mem,
+                    status,
+                    map,
+                    VirtualAddress(words::plus(z, rx)),
+                    Size::W,
+                );
+                return behind(w, 0);
+            }
+            Location::Alarm(place, Alarm::Operand)
+        }
+        6 => {
+            let w = reads::read(
+                mem,
+                status,
+                map,
+                VirtualAddress(words::plus(z, rx)),
+                Size::W,
+            );
+            behind(w, scaled(ry, size))
+        }
+        7 => {
+            if can_step(x, y, z) {
+                let a = words::minus(rx, size.length());
+                regs[i] = a;
+                return Location::Memory(VirtualAddress(a));
+            }
+            Location::Alarm(place, Alarm::Operand)
+        }
+        8 => {
+            if can_step(x, y, z) {
+                let a = words::plus(rx, size.length());
+                regs[i] = a;
+                return Location::Memory(address(rx));
+            }
+            Location::Alarm(place, Alarm::Operand)
+        }
+        _ => Location::Alarm(place, Alarm::Operand),
+    }
+}

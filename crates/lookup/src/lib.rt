@@ -1,0 +1,99 @@
+// The map: every step from a virtual address to a frame number and a real address. One byte is looked up in the mode that the status tells; a byte beside one
+// that was looked up is found from it; in kernel mode an address is real.
+ghost use mathlib.Core.Path.{_≡_};
+ghost use mathlib.Core.Bool.{false};
+ghost use Prim.Native.Nat.{_<_, _≤_};
+ghost use Rattle.lookup.specs.Answers.{Fits, FoundBeside, lookupAs};
+ghost use Rattle.machine.specs.Map.{inFrame, mapped, realOf, viewBy};
+ghost use Rattle.machine.specs.State.{userMode};
+use machine::Access;
+use machine::Alarm;
+use machine::FrameNumber;
+use machine::Map;
+use machine::RealAddress;
+use machine::VirtualAddress;
+
+// Where a byte lies, or the number of an alarm and the byte's address.
+pub enum Lookup {
+    At(RealAddress),
+    Alarm(VirtualAddress, Alarm),
+}
+
+// The place of a byte in the page of one already looked up, or not there.
+pub enum Beside {
+    At(RealAddress),
+    Elsewhere,
+}
+
+fn in_frame(f: FrameNumber, x: VirtualAddress) -> RealAddress
+    requires { ⌜ f .0 < 32768 ⌝ }
+    ensures { λ r. ⌜ r ≡ inFrame f x ⌝ }
+{
+    RealAddress(512 * f.0 + x.0 % 512)
+}
+
+// In user mode.
+fn look_mapped(mem: &[u8], map: Map, x: VirtualAddress, why: Access) -> Lookup
+    requires { ⌜ Fits map (now mem) ⌝ }
+    ensures { λ r. ⌜ lookupAs (now (mem .entry)) r ≡ mapped map (now (mem .entry)) x why ⌝ }
+{
+    let p = x.0 / 512;
+    if map.length <= p {
+        return Lookup::Alarm(x, Alarm::Address);
+    }
+    let base = map.base;
+    let e = words::word(mem, (base.0 + 4 * p) as usize);
+    if e < 0x8000_0000 {
+        return Lookup::Alarm(x, Alarm::Absent);
+    }
+    let f = e % 0x4000_0000;
+    if mem.len() / 512 <= f as usize {
+        return Lookup::Alarm(x, Alarm::MapEntry);
+    }
+    match why {
+        Access::Fetch => Lookup::At(in_frame(FrameNumber(f), x)),
+        Access::Read => Lookup::At(in_frame(FrameNumber(f), x)),
+        Access::Write => {
+            if e % 0x8000_0000 < 0x4000_0000 {
+                return Lookup::Alarm(x, Alarm::ReadOnly);
+            }
+            Lookup::At(in_frame(FrameNumber(f), x))
+        }
+    }
+}
+
+// In kernel mode alone.
+pub fn real(status: u32, x: VirtualAddress) -> RealAddress
+    requires { ⌜ userMode status ≡ false ⌝ }
+    ensures { λ r. ⌜ r ≡ realOf x ⌝ }
+{
+    RealAddress(x.0)
+}
+
+// In the mode that the status tells.
+pub fn look(mem: &[u8], status: u32, map: Map, x: VirtualAddress, why: Access) -> Lookup
+    requires { ⌜ Fits map (now mem) ⌝ }
+    ensures { λ r. ⌜ lookupAs (now (mem .entry)) r ≡ viewBy status map (now (mem .entry)) x why ⌝ }
+{
+    if status < 0x8000_0000 {
+        return look_mapped(mem, map, x, why);
+    }
+    if (x.0 as usize) < mem.len() {
+        return Lookup::At(real(status, x));
+    }
+    Lookup::Alarm(x, Alarm::Address)
+}
+
+// The byte at x, if n bytes from there on lie in the page of the byte at start, and not before it, which was found at found.
+pub fn beside(start: VirtualAddress, found: RealAddress, x: VirtualAddress, n: u32) -> Beside
+    requires { ⌜ (found .0 ≤ 16777216) × (n ≤ 512) ⌝ }
+    ensures { λ r. ⌜ FoundBeside start found x n r ⌝ }
+{
+    if start.0 <= x.0 {
+        let k = x.0 - start.0;
+        if start.0 % 512 + k <= 512 - n {
+            return Beside::At(RealAddress(found.0 + k));
+        }
+    }
+    Beside::Elsewhere
+}

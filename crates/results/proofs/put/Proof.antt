@@ -1,0 +1,82 @@
+-- `put` is right for each target: a register keeps its rest, and a store that ends gives the command's end.
+use borrow.Author.Needs.{needs}
+use Rattle.machine.specs.Map.{viewBy, located, commit}
+use Rattle.machine.specs.Commands.{stored}
+use Rattle.results.proofs.Ends.{stored-end}
+use Rattle.results.proofs.put.Statement.{statement}
+use Rattle.results.proofs.put.Tie as tie
+
+with-flags-requires : tie.Need-with-flags-requires
+with-flags-requires c κs = search needs
+
+enum-told : tie.Need-enum-told
+enum-told c = search needs
+
+enum-known-target : tie.Need-enum-known-target
+enum-known-target c = search needs
+
+cast-k : tie.Need-cast-k
+cast-k c = search needs
+
+mul-kept-rest : tie.Need-mul-kept-rest
+mul-kept-rest c = search needs
+
+element-copy-out-kept-rest : tie.Need-element-copy-out-kept-rest
+element-copy-out-kept-rest c = rw (c .before .target .given .1) at (c .before .before .before .before .before .pre .1)
+
+kept-rest-requires : tie.Need-kept-rest-requires
+kept-rest-requires c κs = search needs
+
+mul-regs : tie.Need-mul-regs
+mul-regs c = search needs
+
+element-write-regs : tie.Need-element-write-regs
+element-write-regs c = rw (c .before .before .before .target .given .1) at (c .before .before .before .before .before .before .before .pre .1)
+
+enum-known-target-2 : tie.Need-enum-known-target-2
+enum-known-target-2 c = search needs
+
+store-requires : tie.Need-store-requires
+store-requires c κs = search needs
+
+ended-requires : tie.Need-ended-requires
+ended-requires c κs = search needs
+
+returns : tie.Need-returns
+unfolding stored located commit
+returns c = rw (c .enum-told .given .1, c .before .before .with-flags .ensures)
+
+returns-2 : tie.Need-returns-2
+unfolding stored located commit
+returns-2 c = rw (c .before .before .before .target .given .1, c .kept-rest .ensures, c .before .before .before .before .before .with-flags .ensures)
+
+same-length : tie.Need-same-length
+same-length c = search needs
+
+returns-3 : tie.Need-returns-3
+unfolding stored
+returns-3 c =
+    let a = c .before .before .before .before .before .before .before .before .before .before .args in
+    rw (c .before .before .before .before .before .before .target2 .given .1)
+    (stored-end (a .status) (a .mem .now) (viewBy (a .status) (a .map) (a .mem .now)) _ _ _ _ (rw (c .before .before .before .before .before .before .before .before .with-flags .ensures) at (c .ended .ensures)) (c .before .before .before .store .ensures))
+
+pub put-spec : {M : Type 1} → statement M
+put-spec =
+    tie.close
+    (tie.spec
+    with-flags-requires
+    enum-told
+    enum-known-target
+    cast-k
+    mul-kept-rest
+    element-copy-out-kept-rest
+    kept-rest-requires
+    mul-regs
+    element-write-regs
+    enum-known-target-2
+    store-requires
+    ended-requires
+    returns
+    returns-2
+    same-length
+    returns-3)

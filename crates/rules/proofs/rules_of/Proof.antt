@@ -1,0 +1,46 @@
+-- `rules_of` is right: each number of the table reads as its byte's rules, and a byte past the table is unknown.
+use Prim.Native.Nat.{ℕ, _≤_, _<_}
+use mathlib.Core.Path.{_≡_, refl}
+use mathlib.Core.Bool.{true}
+use mathlib.Core.List.{[]}
+use native.Mathlib.Omega.{arith}
+use borrow.Author.Needs.{needs}
+use borrow.Author.Tests.{ltb-true}
+use lib.Dec.{ltb}
+use lib.ListN.{getD}
+use Rattle.machine.specs.Code.{table, knownIn, known}
+use Rattle.rules.specs.Rules.{rulesFrom, rulesIn, knownRules, numbersFrom, tableOf}
+use Rattle.rules.proofs.Bytes.{same}
+use Rattle.rules.proofs.rules_of.Statement.{statement}
+use Rattle.rules.proofs.rules_of.Tie as tie
+
+below : (b : ℕ) → b < 123 → getD tableOf b 0 < 65536
+unfolding table knownIn known numbersFrom tableOf
+below b h = ltb-true _ _ (same (λ k. ltb (getD tableOf k 0) 65536) (λ k. true) 123 0 refl b (omega arith) h)
+
+rules : (b : ℕ) → b < 123 → rulesIn (getD tableOf b 0) ≡ knownRules (known b)
+unfolding table knownIn known numbersFrom tableOf rulesFrom
+rules b h = same (λ k. rulesIn (getD tableOf k 0)) (λ k. knownRules (known k)) 123 0 refl b (omega arith) h
+
+past : (b : ℕ) → 123 ≤ b → b < 256 → [] ≡ knownRules (known b)
+unfolding table knownIn known
+past b l h = same (λ k. []) (λ k. knownRules (known k)) 133 123 refl b l h
+
+mul-result : tie.Need-mul-result
+mul-result c = search needs
+
+element-copy-out-result : tie.Need-element-copy-out-result
+element-copy-out-result c = search needs
+
+cast-result : tie.Need-cast-result
+cast-result c = record { fits = rw (c .before .before .pre .0) (let h : getD tableOf (c .before .before .args .b) 0 < 65536 = below _ (c .before .if1 .taken) in omega arith) }
+
+returns : tie.Need-returns
+returns c = rw (c .before .before .pre .0) (rules _ (c .before .if1 .taken), below _ (c .before .if1 .taken))
+
+returns-2 : tie.Need-returns-2
+unfolding rulesFrom
+returns-2 c = (past _ (c .if1 .left) (c .before .pre .1), omega arith)
+
+pub rules-of-spec : {M : Type 1} → statement M
+rules-of-spec = tie.close (tie.spec mul-result element-copy-out-result cast-result returns returns-2)

@@ -1,0 +1,195 @@
+// The constant table: operand count, sizes and roles of each command byte; and the mode that a byte needs.
+ghost use mathlib.Core.Path.{_≡_};
+ghost use Prim.Native.Nat.{_<_};
+ghost use Rattle.machine.specs.Code.{known, table};
+ghost use Rattle.rules.specs.Rules.{forbiddenOf, knownRules, roleIn, rulesIn, sizeIn, tableOf};
+use machine::Role;
+use machine::Size;
+
+// Four hexadecimal digits a row: the operand count, then a digit for the third, the second and the first operand. A digit is 1 for B, 2 for H, 3 for W, and 0
+// for a value, 4 for an address, 8 for a destination, 12 for an update. An unknown byte has no operands, and from 0x7B on all are unknown.
+const RULES: [u16; 123] = [
+    0x0000, // 0x00: HALT, PUSHR, POPR, system call
+    0x0000,
+    0x0000,
+    0x1003,
+    0x0000,
+    0x1007, // 0x05: RESUME
+    0x0000,
+    0x0000,
+    0x0000,
+    0x0000,
+    0x0000,
+    0x0000,
+    0x0000,
+    0x0000,
+    0x0000,
+    0x0000,
+    0x2091, // 0x10: MOVE
+    0x20a2,
+    0x20b3,
+    0x0000,
+    0x1009, // 0x14: CLEAR
+    0x100a,
+    0x100b,
+    0x0000,
+    0x2091, // 0x18: MOVEN
+    0x20a2,
+    0x20b3,
+    0x0000,
+    0x2091, // 0x1C: MOVEC
+    0x20a2,
+    0x20b3,
+    0x0000,
+    0x20b7, // 0x20: MOVEA, CONV
+    0x20b1,
+    0x0000,
+    0x0000,
+    0x0000,
+    0x0000,
+    0x0000,
+    0x0000,
+    0x20d1, // 0x28: OR
+    0x20e2,
+    0x20f3,
+    0x0000,
+    0x3911,
+    0x3a22,
+    0x3b33,
+    0x0000,
+    0x20d1, // 0x30: ANDNOT
+    0x20e2,
+    0x20f3,
+    0x0000,
+    0x3911,
+    0x3a22,
+    0x3b33,
+    0x0000,
+    0x20d1, // 0x38: XOR
+    0x20e2,
+    0x20f3,
+    0x0000,
+    0x3911,
+    0x3a22,
+    0x3b33,
+    0x0000,
+    0x20d1, // 0x40: ADD
+    0x20e2,
+    0x20f3,
+    0x0000,
+    0x3911,
+    0x3a22,
+    0x3b33,
+    0x0000,
+    0x20d1, // 0x48: SUB
+    0x20e2,
+    0x20f3,
+    0x0000,
+    0x3911,
+    0x3a22,
+    0x3b33,
+    0x0000,
+    0x20d1, // 0x50: MULT
+    0x20e2,
+    0x20f3,
+    0x0000,
+    0x3911,
+    0x3a22,
+    0x3b33,
+    0x0000,
+    0x20d1, // 0x58: DIV
+    0x20e2,
+    0x20f3,
+    0x0000,
+    0x3911,
+    0x3a22,
+    0x3b33,
+    0x0000,
+    0x3b33, // 0x60: SH, ROT
+    0x3b33,
+    0x0000,
+    0x0000,
+    0x2011, // 0x64: CMP
+    0x2022,
+    0x2033,
+    0x0000,
+    0x0000,
+    0x0000,
+    0x0000,
+    0x0000,
+    0x0000,
+    0x0000,
+    0x0000,
+    0x0000,
+    0x1007, // 0x70: jumps, CALL, RET
+    0x1007,
+    0x1007,
+    0x1007,
+    0x1007,
+    0x1007,
+    0x1007,
+    0x1007,
+    0x1007,
+    0x1007,
+    0x0000,
+];
+
+// The table, made once and lent to each command.
+pub fn table() -> [u16; 123]
+    ensures { λ r. ⌜ r ≡ tableOf ⌝ }
+{
+    RULES
+}
+
+pub fn rules_of(table: &[u16; 123], b: u32) -> u32
+    requires { ⌜ (now table ≡ tableOf) × (b < 256) ⌝ }
+    ensures rules { λ r. ⌜ rulesIn r ≡ knownRules (known b) ⌝ }
+    ensures small { λ r. ⌜ r < 65536 ⌝ }
+{
+    if b < 123 {
+        return table[b as usize] as u32;
+    }
+    0
+}
+
+// The operand count of a row.
+pub fn count_in(rules: u32) -> u32
+    ensures { λ r. ⌜ r ≡ countIn rules ⌝ }
+{
+    rules / 0x1000
+}
+
+// The size in the lowest digit: the next operand's.
+pub fn size_in(rules: u32) -> Size
+    ensures { λ r. ⌜ r ≡ sizeIn rules ⌝ }
+{
+    let k = rules % 4;
+    match k {
+        1 => Size::B,
+        2 => Size::H,
+        _ => Size::W,
+    }
+}
+
+// The role in the lowest digit: the next operand's.
+pub fn role_in(rules: u32) -> Role
+    ensures { λ r. ⌜ r ≡ roleIn rules ⌝ }
+{
+    let k = rules / 4 % 4;
+    match k {
+        0 => Role::Value,
+        1 => Role::Address,
+        2 => Role::Destination,
+        _ => Role::Update,
+    }
+}
+
+// 13: HALT or RESUME in user mode, or a system call in kernel mode.
+pub fn forbidden(b: u32, status: u32) -> bool
+    ensures { λ r. ⌜ r ≡ forbiddenOf b status ⌝ }
+{
+    if status < 0x8000_0000 {
+        return (b == 0) | (b == 5);
+    }
+    b == 3
+}

@@ -1,0 +1,126 @@
+-- POPR turn by turn, and what PUSHR writes as one row of words.
+use Prim.Native.Nat.{ℕ, zero, suc, _+_, _-_, _*_, _<_, _≤_}
+use mathlib.Core.Path.{_≡_, refl, ap, _∙_}
+use mathlib.Core.List.{List, [], _∷_, _++_, append-assoc, append-nil}
+use native.Mathlib.Nat.{add-zero, zero-add}
+use native.Mathlib.Numerals.{add-one}
+use native.Mathlib.Omega.{arith}
+use borrow.Author.Tests.{eq-eqb, ne-eqb}
+use lib.ListN.{length, getD, set, take, length-append, List·getD-append}
+use lib.Seq.{take-all, getD-append-add}
+use Rattle.machine.specs.declared.Access.the-variants.{Read}
+use Rattle.machine.specs.Words.{bytesOf, bytesOfWords, wrap, raised, lowered}
+use Rattle.machine.specs.State.{Registers, reg, registersFrom}
+use Rattle.machine.specs.Alarms.{got, alarm}
+use Rattle.machine.specs.Map.{View, VirtualWrites, readBytes, writesFrom}
+use Rattle.machine.specs.Commands.{pushed, popped}
+use Rattle.machine.proofs.Blocks.{words-append, one-word, words-length, registers-length}
+use Rattle.reads.proofs.Reading.{read-virtual}
+
+-- ---- POPR
+
+module _ (v : View) (n i : ℕ) (r : Registers) where
+  pub popped-next : i < n → (w : ℕ) → got w ≡ readBytes v Read 4 (record { 0 = reg r 14 })
+      → popped v (n - i) i r ≡ popped v (n - (i + 1)) (i + 1) (set (set r i w) 14 (raised (reg (set r i w) 14) 4))
+  unfolding popped
+  popped-next h w e = let p : n - i ≡ suc (n - (i + 1)) = omega arith in rw (p, read-virtual, ← e, add-one i)
+
+  pub popped-alarm : i < n → (k x : ℕ) → alarm k x ≡ readBytes v Read 4 (record { 0 = reg r 14 }) → popped v (n - i) i r ≡ alarm k x
+  unfolding popped
+  popped-alarm h k x e = let p : n - i ≡ suc (n - (i + 1)) = omega arith in rw (p, read-virtual, ← e)
+
+  pub popped-all : n ≤ i → popped v (n - i) i r ≡ got r
+  unfolding popped
+  popped-all h = let p : n - i ≡ 0 = omega arith in rw p
+
+-- ---- Registers
+
+-- one register more, the last
+registers-last : (k i : ℕ) (r : Registers) → registersFrom (suc k) i r ≡ registersFrom k i r ++ reg r (i + k) ∷ []
+unfolding registersFrom
+registers-last zero i r = rw add-zero
+registers-last (suc k) i r =
+    let e : suc i + k ≡ i + suc k = omega arith in
+    ap (λ (ws : List ℕ). reg r i ∷ ws) (rw (← e) (registers-last k (suc i) r))
+
+-- ---- PUSHR
+
+writes-same : (bs : List ℕ) (a b : ℕ) → wrap a ≡ wrap b → writesFrom a bs ≡ writesFrom b bs
+unfolding writesFrom
+writes-same [] a b e = refl
+writes-same (x ∷ bs) a b e = rw (e, writes-same bs (a + 1) (b + 1) (omega arith))
+
+writes-append : (xs ys : List ℕ) (a : ℕ) → writesFrom a (xs ++ ys) ≡ writesFrom a xs ++ writesFrom (a + length xs) ys
+unfolding writesFrom
+writes-append [] ys a = rw add-zero
+writes-append (x ∷ xs) ys a =
+    let e : a + 1 + length xs ≡ a + suc (length xs) = omega arith in
+    rw (writes-append xs ys (a + 1), e)
+
+-- a word that follows others, at its own address
+word-after : (ws : List ℕ) (w a b : ℕ) → wrap (a + 4 * length ws) ≡ wrap b
+    → writesFrom a (bytesOfWords ws) ++ writesFrom b (bytesOf 4 w) ≡ writesFrom a (bytesOfWords (ws ++ w ∷ []))
+word-after ws w a b e =
+    rw (words-append, one-word, writes-append (bytesOfWords ws) (bytesOf 4 w) a, words-length ws, writes-same (bytesOf 4 w) (a + 4 * length ws) b e)
+
+-- n bytes above SP lowered by n + 4
+up-again : (sp n : ℕ) → n ≤ 56 → wrap (lowered sp (n + 4) + n) ≡ wrap (lowered sp 4)
+up-again sp n l = omega arith
+
+-- one turn: SP lowered once is what R14 stores, the others store themselves
+module _ (i sp : ℕ) (r : Registers) (ws : VirtualWrites) (f : ℕ) where
+  pushed-own : i ≡ 14 → pushed (suc i) sp r ws f ≡ pushed i (lowered sp 4) r (writesFrom (lowered sp 4) (bytesOf 4 (lowered sp 4)) ++ ws) f
+  unfolding pushed
+  pushed-own e = rw (eq-eqb i 14 e)
+
+  pushed-other : i < 14 → pushed (suc i) sp r ws f ≡ pushed i (lowered sp 4) r (writesFrom (lowered sp 4) (bytesOf 4 (reg r i)) ++ ws) f
+  unfolding pushed
+  pushed-other l = rw (ne-eqb i 14 (λ e. omega arith))
+
+-- the turns for i - 1 downto 0 write the registers below Ri
+pushed-registers : (i sp : ℕ) (r : Registers) (ws : VirtualWrites) (f : ℕ) → i ≤ 14 → sp < 0x1_0000_0000
+    → pushed i sp r ws f
+    ≡ record { registers = set r 14 (lowered sp (4 * i)); flags = f; writes = writesFrom (lowered sp (4 * i)) (bytesOfWords (registersFrom i 0 r)) ++ ws }
+pushed-registers zero sp r ws f l h =
+    let e : lowered sp (4 * 0) ≡ sp = omega arith in
+    rw e (unfold pushed registersFrom bytesOfWords writesFrom in refl)
+pushed-registers (suc i) sp r ws f l h =
+    let low : lowered (lowered sp 4) (4 * i) ≡ lowered sp (4 * suc i) = omega arith in
+    let four : 4 * suc i ≡ 4 * i + 4 = omega arith in
+    let last : registersFrom (suc i) 0 r ≡ registersFrom i 0 r ++ reg r i ∷ [] = rw zero-add at (registers-last i 0 r) in
+    pushed-other i sp r ws f l
+    ∙ pushed-registers i (lowered sp 4) r (writesFrom (lowered sp 4) (bytesOf 4 (reg r i)) ++ ws) f (omega arith) (omega arith)
+    ∙ rw (low, last, ← append-assoc, word-after (registersFrom i 0 r) (reg r i) (lowered sp (4 * suc i)) (lowered sp 4) (rw (registers-length i 0 r, four) (up-again sp (4 * i) (omega arith))))
+
+pub pushed-all : (sp : ℕ) (r : Registers) (f : ℕ) → pushed 15 sp r [] f
+    ≡ record { registers = set r 14 (lowered sp 60); flags = f; writes = writesFrom (lowered sp 60) (bytesOfWords (registersFrom 14 0 r ++ lowered sp 4 ∷ [])) }
+pushed-all sp r f =
+    let low : lowered (lowered sp 4) 56 ≡ lowered sp 60 = omega arith in
+    pushed-own 14 sp r [] f refl
+    ∙ pushed-registers 14 (lowered sp 4) r (writesFrom (lowered sp 4) (bytesOf 4 (lowered sp 4)) ++ []) f (omega arith) (omega arith)
+    ∙ rw (low, append-nil, word-after (registersFrom 14 0 r) (lowered sp 4) (lowered sp 60) (lowered sp 4) (rw (registers-length 14 0 r) (up-again sp 56 (omega arith))))
+
+-- ---- The row of bytes
+
+register-at : (k j i : ℕ) (r : Registers) → i < k → getD (registersFrom k j r) i 0 ≡ reg r (j + i)
+unfolding registersFrom
+register-at zero j i r h = absurd (omega arith)
+register-at (suc k) j zero r h = rw add-zero
+register-at (suc k) j (suc i) r h =
+    let e : suc j + i ≡ j + suc i = omega arith in
+    rw (← e) (register-at k (suc j) i r (omega arith))
+
+module _ (r : Registers) (sp : ℕ) where
+  pub row-length : length (registersFrom 14 0 r ++ sp ∷ []) ≡ 15
+  row-length = rw (length-append, registers-length 14 0 r)
+
+  pub row-register : (i : ℕ) → i < 14 → getD (registersFrom 14 0 r ++ sp ∷ []) i 0 ≡ reg r i
+  row-register i h =
+      let l : i < length (registersFrom 14 0 r) = omega (arith, registers-length 14 0 r) in
+      List·getD-append (registersFrom 14 0 r) (sp ∷ []) 0 i l ∙ (rw zero-add at (register-at 14 0 i r h))
+
+  pub row-sp : getD (registersFrom 14 0 r ++ sp ∷ []) 14 0 ≡ sp
+  row-sp = rw (registers-length 14 0 r) at (getD-append-add (registersFrom 14 0 r) (sp ∷ []) 0 0)
+
+  pub row-bytes : take 60 (bytesOfWords (registersFrom 14 0 r ++ sp ∷ [])) ≡ bytesOfWords (registersFrom 14 0 r ++ sp ∷ [])
+  row-bytes = take-all 60 (bytesOfWords (registersFrom 14 0 r ++ sp ∷ [])) (omega (arith, row-length, words-length (registersFrom 14 0 r ++ sp ∷ [])))

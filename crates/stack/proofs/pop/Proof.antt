@@ -1,0 +1,97 @@
+-- `pop` is right: the turns that are left come to what all of them come to, and the first read that alarms ends it.
+use Prim.Native.Nat.{_≤_, _-_}
+use mathlib.Core.Path.{_≡_, refl, sym, _∙_}
+use native.Mathlib.Omega.{arith}
+use borrow.Author.Needs.{needs}
+use Rattle.machine.specs.Map.{viewBy, located, commit}
+use Rattle.machine.specs.Commands.{popped}
+use Rattle.results.proofs.Ends.{same-status}
+use Rattle.stack.proofs.Stack.{popped-next, popped-alarm, popped-all}
+use Rattle.stack.proofs.pop.Statement.{statement}
+use Rattle.stack.proofs.pop.Tie as tie
+
+abbrev Inv-loop : tie.InvT-loop
+Inv-loop mem regs₀ status map i₀ regs i = (i ≤ 15) × (popped (viewBy status map mem) (15 - i) i regs ≡ popped (viewBy status map mem) 15 0 regs₀)
+
+abbrev μ-loop : tie.MeasureT-loop
+μ-loop mem regs₀ status map i₀ regs i = 15 - i
+
+loop-holds : tie.Need-loop-holds Inv-loop μ-loop
+loop-holds c = (omega arith, refl)
+
+element-copy-out-t14 : tie.Need-element-copy-out-t14 Inv-loop μ-loop
+element-copy-out-t14 c = search needs
+
+read-requires : tie.Need-read-requires Inv-loop μ-loop
+read-requires c κs = search needs
+
+enum-known-w : tie.Need-enum-known-w Inv-loop μ-loop
+enum-known-w c = search needs
+
+mul-regs : tie.Need-mul-regs Inv-loop μ-loop
+mul-regs c = search needs
+
+element-write-regs : tie.Need-element-write-regs Inv-loop μ-loop
+element-write-regs c = search needs
+
+element-copy-out-plus : tie.Need-element-copy-out-plus Inv-loop μ-loop
+element-copy-out-plus c = search needs
+
+plus-requires : tie.Need-plus-requires Inv-loop μ-loop
+plus-requires c κs = search needs
+
+element-write-regs-2 : tie.Need-element-write-regs-2 Inv-loop μ-loop
+element-write-regs-2 c = search needs
+
+enum-known-w-2 : tie.Need-enum-known-w-2 Inv-loop μ-loop
+enum-known-w-2 c = search needs
+
+returns : tie.Need-returns Inv-loop μ-loop
+returns c =
+    let a = c .before .before .before .before .before .before .before .before .args in
+    let turn = c .before .before .before .before .before .before .loop in
+    rw (← turn .inv .1, popped-alarm (viewBy (a .status) (a .map) (a .mem .now)) 15 (turn .i) (turn .regs) (c .before .before .before .before .before .loop-test .taken) _ _ (rw (c .before .w2 .given .1) at (c .before .before .before .read .ensures)))
+
+add-i : tie.Need-add-i Inv-loop μ-loop
+add-i c = search needs
+
+loop-less : tie.Need-loop-less Inv-loop μ-loop
+loop-less c = search needs
+
+loop-again : tie.Need-loop-again Inv-loop μ-loop
+loop-again c =
+    let a = c .before .before .before .before .before .before .before .before .before .before .args in
+    let turn = c .before .before .before .before .before .before .before .before .loop in (
+      omega arith,
+      rw (c .plus .ensures)
+          (sym (popped-next (viewBy (a .status) (a .map) (a .mem .now)) 15 (turn .i) (turn .regs) (c .before .before .before .before .before .before .before .loop-test .taken) _ (rw (c .before .before .before .w .given .1) at (c .before .before .before .before .before .read .ensures))) ∙ turn .inv .1),
+    )
+
+returns-2 : tie.Need-returns-2 Inv-loop μ-loop
+unfolding located commit
+returns-2 c =
+    let a = c .before .before .before .args in
+    let turn = c .before .loop in
+    rw (← turn .inv .1, popped-all (viewBy (a .status) (a .map) (a .mem .now)) 15 (turn .i) (turn .regs) (c .loop-test .left), same-status)
+
+pub pop-spec : {M : Type 1} → statement M
+pop-spec =
+    tie.close
+    (tie.spec
+    Inv-loop
+    μ-loop
+    loop-holds
+    element-copy-out-t14
+    read-requires
+    enum-known-w
+    mul-regs
+    element-write-regs
+    element-copy-out-plus
+    plus-requires
+    element-write-regs-2
+    enum-known-w-2
+    returns
+    add-i
+    loop-less
+    loop-again
+    returns-2)

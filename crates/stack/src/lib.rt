@@ -1,0 +1,90 @@
+// The commands of the stack: PUSHR, POPR, CALL, RET.
+ghost use mathlib.Core.Path.{_≡_};
+ghost use mathlib.Core.List.{[], _++_, _∷_};
+ghost use Rattle.lookup.specs.Answers.{Fits};
+ghost use Rattle.machine.specs.Alarms.{got};
+ghost use Rattle.machine.specs.Commands.{called, poppedDone, pushed, returnedDone};
+ghost use Rattle.machine.specs.Map.{viewBy};
+ghost use Rattle.machine.specs.State.{flagsOf, reg, registersFrom};
+ghost use Rattle.machine.specs.Words.{bytesOfWords};
+ghost use Rattle.results.specs.Ends.{doneEnd, outAs};
+use machine::Map;
+use machine::Size;
+use machine::VirtualAddress;
+use reads::Got;
+use results::Out;
+
+// The bytes of R0 to R13 and of SP lowered once, upward.
+fn stacked(regs: &[u32; 16], sp: u32) -> [u8; 60]
+    ensures { λ r. ⌜ r ≡ bytesOfWords (registersFrom 14 0 (now (regs .entry)) ++ sp ∷ []) ⌝ }
+{
+    let mut row: [u32; 15] = [sp; 15];
+    let mut i: usize = 0;
+    while i < 14 {
+        row[i] = regs[i];
+        i += 1;
+    }
+    let mut bytes: [u8; 60] = [0; 60];
+    words::put_words(&mut bytes, 0, &row);
+    bytes
+}
+
+pub fn push(mem: &mut [u8], regs: &mut [u32; 16], status: u32, map: Map) -> Out
+    requires { ⌜ Fits map (now mem) ⌝ }
+    ensures { λ r. ⌜ outAs r (now (regs .exit)) (now (mem .exit)) ≡ doneEnd status (now (mem .entry)) (viewBy status map (now (mem .entry))) (got (pushed 15 (reg (now (regs .entry)) 14) (now (regs .entry)) [] (flagsOf status))) ⌝ }
+{
+    let sp = regs[14];
+    let bytes = stacked(regs, words::minus(sp, 4));
+    let low = words::minus(sp, 60);
+    let done = stores::store_bytes(mem, status, map, VirtualAddress(low), &bytes, 60);
+    regs[14] = low;
+    results::ended(done, status)
+}
+
+pub fn pop(mem: &[u8], regs: &mut [u32; 16], status: u32, map: Map) -> Out
+    requires { ⌜ Fits map (now mem) ⌝ }
+    ensures { λ r. ⌜ outAs r (now (regs .exit)) (now (mem .entry)) ≡ doneEnd status (now (mem .entry)) (viewBy status map (now (mem .entry))) (poppedDone (viewBy status map (now (mem .entry))) (now (regs .entry)) (flagsOf status)) ⌝ }
+{
+    let mut i: usize = 0;
+    while i < 15 {
+        let w = reads::read(mem, status, map, VirtualAddress(regs[14]), Size::W);
+        match w {
+            Got::Value(n) => {
+                regs[i] = n;
+                regs[14] = words::plus(regs[14], 4);
+            }
+            Got::Alarm(a, n) => {
+                return Out::Alarm(a, n);
+            }
+        }
+        i += 1;
+    }
+    Out::Done(status)
+}
+
+pub fn call(mem: &mut [u8], regs: &mut [u32; 16], status: u32, map: Map, a: u32) -> Out
+    requires { ⌜ Fits map (now mem) ⌝ }
+    ensures { λ r. ⌜ outAs r (now (regs .exit)) (now (mem .exit)) ≡ doneEnd status (now (mem .entry)) (viewBy status map (now (mem .entry))) (got (called a (now (regs .entry)) (flagsOf status))) ⌝ }
+{
+    let sp = words::minus(regs[14], 4);
+    let done = stores::store(mem, status, map, VirtualAddress(sp), Size::W, regs[15]);
+    regs[14] = sp;
+    regs[15] = a;
+    results::ended(done, status)
+}
+
+pub fn ret(mem: &[u8], regs: &mut [u32; 16], status: u32, map: Map) -> Out
+    requires { ⌜ Fits map (now mem) ⌝ }
+    ensures { λ r. ⌜ outAs r (now (regs .exit)) (now (mem .entry)) ≡ doneEnd status (now (mem .entry)) (viewBy status map (now (mem .entry))) (returnedDone (viewBy status map (now (mem .entry))) (now (regs .entry)) (flagsOf status)) ⌝ }
+{
+    let sp = regs[14];
+    let w = reads::read(mem, status, map, VirtualAddress(sp), Size::W);
+    match w {
+        Got::Value(n) => {
+            regs[15] = n;
+            regs[14] = words::plus(sp, 4);
+            Out::Done(status)
+        }
+        Got::Alarm(a, n) => Out::Alarm(a, n),
+    }
+}

@@ -1,0 +1,157 @@
+-- `store_bytes` is right: the first loop finds a place for each byte or stops at the first alarm with nothing written, and the second writes what is left to write.
+use Prim.Native.Nat.{ℕ, _≤_, _<_, _-_}
+use mathlib.Core.Path.{ap, _≡_, refl, sym, _∙_}
+use native.Mathlib.Nat.{sub-zero}
+use native.Mathlib.Omega.{arith}
+use borrow.Author.Needs.{needs}
+use lib.ListN.{length-set, length}
+use Rattle.machine.proofs.Pages.{found-inside}
+use Rattle.machine.specs.Map.{viewBy, commit}
+use Rattle.stores.specs.Answers.{wrote}
+use Rattle.lookup.proofs.Lookups.{look-found, look-alarm}
+use Rattle.stores.proofs.Storing.{all-located, one-stopped, one-placed, one-written, all-written, writesTo, Placed}
+use Rattle.stores.proofs.store_bytes.Statement.{statement}
+use Rattle.stores.proofs.store_bytes.Tie as tie
+
+abbrev Inv-loop : tie.InvT-loop
+Inv-loop mem status map x bytes n source places₀ i₀ places i =
+    (i ≤ n) × ((k : ℕ) → k < i → Placed (viewBy status map mem) mem (x .0) places k) × (length places ≡ 60)
+
+abbrev μ-loop : tie.MeasureT-loop
+μ-loop mem status map x bytes n source places₀ i₀ places i = n - i
+
+abbrev Inv-loop2 : tie.InvT-loop2
+Inv-loop2 mem₀ status entries bytes n source places i j₀ mem j =
+    (j ≤ n) × (length mem ≡ length mem₀) × (commit (writesTo (n - j) j places bytes) mem ≡ commit (writesTo n 0 places bytes) mem₀)
+
+abbrev μ-loop2 : tie.MeasureT-loop2
+μ-loop2 mem₀ status entries bytes n source places i j₀ mem j = n - j
+
+loop-holds : tie.Need-loop-holds Inv-loop μ-loop Inv-loop2 μ-loop2
+loop-holds c = (omega arith, λ k h. absurd (omega arith), refl)
+
+cast-wrapping-add-u32 : tie.Need-cast-wrapping-add-u32 Inv-loop μ-loop Inv-loop2 μ-loop2
+cast-wrapping-add-u32 c = search needs
+
+wrapping-add-u32-requires : tie.Need-wrapping-add-u32-requires Inv-loop μ-loop Inv-loop2 μ-loop2
+wrapping-add-u32-requires c κs = search needs
+
+look-requires : tie.Need-look-requires Inv-loop μ-loop Inv-loop2 μ-loop2
+look-requires c κs = search needs
+
+enum-known-s : tie.Need-enum-known-s Inv-loop μ-loop Inv-loop2 μ-loop2
+enum-known-s c = search needs
+
+mul-places : tie.Need-mul-places Inv-loop μ-loop Inv-loop2 μ-loop2
+mul-places c = search needs
+
+array-write-places : tie.Need-array-write-places Inv-loop μ-loop Inv-loop2 μ-loop2
+array-write-places c = search needs
+
+enum-known-s-2 : tie.Need-enum-known-s-2 Inv-loop μ-loop Inv-loop2 μ-loop2
+enum-known-s-2 c = search needs
+
+same-length : tie.Need-same-length Inv-loop μ-loop Inv-loop2 μ-loop2
+same-length c = search needs
+
+returns : tie.Need-returns Inv-loop μ-loop Inv-loop2 μ-loop2
+returns c =
+    let looked = c .before .before .before in
+    let test = looked .before .before .before in
+    let turn = test .before .loop in
+    let a = test .before .before .before .before .args in
+    let stopped = look-alarm (c .before .s2 .given .1) (looked .look .ensures) (omega arith) in
+    rw (one-stopped (viewBy (a .status) (a .map) (a .mem .now)) (a .mem .now) (a .x .0) (turn .places) (a .bytes .now) (a .n) (turn .i) _ _ _ (test .loop-test .taken) (omega arith) (turn .inv .1) (looked .before .before .wrapping-add-u32 .ensures) (stopped .miss))
+
+add-i : tie.Need-add-i Inv-loop μ-loop Inv-loop2 μ-loop2
+add-i c = search needs
+
+loop-less : tie.Need-loop-less Inv-loop μ-loop Inv-loop2 μ-loop2
+loop-less c = search needs
+
+loop-again : tie.Need-loop-again Inv-loop μ-loop Inv-loop2 μ-loop2
+loop-again c =
+    let looked = c .before .before .before in
+    let turn = looked .before .before .before .before .loop in
+    let start = looked .before .before .before .before .before .before .before in
+    let a = start .args in
+    let found = look-found (c .before .s .given .1) (looked .look .ensures) (start .pre .0) (omega arith) in (
+      omega arith,
+      one-placed (viewBy (a .status) (a .map) (a .mem .now)) (a .mem .now) (a .x .0) (turn .places) (turn .i) _ _ (omega arith) (turn .inv .1) (looked .before .before .wrapping-add-u32 .ensures) (found .hit),
+      simp length-set (turn .inv .2),
+    )
+
+loop2-holds : tie.Need-loop2-holds Inv-loop μ-loop Inv-loop2 μ-loop2
+loop2-holds c = (omega arith, refl, rw sub-zero)
+
+mul-at : tie.Need-mul-at Inv-loop μ-loop Inv-loop2 μ-loop2
+mul-at c = search needs
+
+array-read-at : tie.Need-array-read-at Inv-loop μ-loop Inv-loop2 μ-loop2
+array-read-at c = search needs
+
+cast-at : tie.Need-cast-at Inv-loop μ-loop Inv-loop2 μ-loop2
+cast-at c = omega (arith, found-inside _ _ _ _ _ _ _ (c .before .before .before .loop .inv .1 (c .before .loop2 .j) (omega arith)))
+
+shared-slice-read-mem : tie.Need-shared-slice-read-mem Inv-loop μ-loop Inv-loop2 μ-loop2
+shared-slice-read-mem c = search needs
+
+slice-write-mem : tie.Need-slice-write-mem Inv-loop μ-loop Inv-loop2 μ-loop2
+slice-write-mem c = omega (arith, found-inside _ _ _ _ _ _ _ (c .before .before .before .before .loop .inv .1 (c .before .before .loop2 .j) (omega arith)))
+
+add-j : tie.Need-add-j Inv-loop μ-loop Inv-loop2 μ-loop2
+add-j c = search needs
+
+loop2-less : tie.Need-loop2-less Inv-loop μ-loop Inv-loop2 μ-loop2
+loop2-less c = search needs
+
+loop2-again : tie.Need-loop2-again Inv-loop μ-loop Inv-loop2 μ-loop2
+loop2-again c =
+    let b = c .before .before .loop2 in (
+      omega arith,
+      simp length-set (b .inv .1),
+      sym (one-written _ _ _ _ (b .j) (c .before .loop2-test .taken)) ∙ b .inv .2,
+    )
+
+same-length-2 : tie.Need-same-length-2 Inv-loop μ-loop Inv-loop2 μ-loop2
+same-length-2 c = search needs
+
+returns-2 : tie.Need-returns-2 Inv-loop μ-loop Inv-loop2 μ-loop2
+returns-2 c =
+    let turn = c .before .before .before .loop in
+    let a = c .before .before .before .before .before .before .args in
+    rw (all-located (viewBy (a .status) (a .map) (a .mem .now)) (a .mem .now) (a .x .0) (turn .places) (a .bytes .now) (a .n) (omega arith) (λ k h. turn .inv .1 k (omega arith)))
+    (ap wrote (sym (all-written _ _ _ _ _ (c .loop2-test .left)) ∙ c .before .loop2 .inv .2))
+
+pub store-bytes-spec : {M : Type 1} → statement M
+store-bytes-spec =
+    tie.close
+    (tie.spec
+    Inv-loop
+    μ-loop
+    Inv-loop2
+    μ-loop2
+    loop-holds
+    cast-wrapping-add-u32
+    wrapping-add-u32-requires
+    look-requires
+    enum-known-s
+    mul-places
+    array-write-places
+    enum-known-s-2
+    same-length
+    returns
+    add-i
+    loop-less
+    loop-again
+    loop2-holds
+    mul-at
+    array-read-at
+    cast-at
+    shared-slice-read-mem
+    slice-write-mem
+    add-j
+    loop2-less
+    loop2-again
+    same-length-2
+    returns-2)
