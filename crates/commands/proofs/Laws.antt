@@ -5,6 +5,7 @@ use mathlib.Core.Bool.{Bool, true, false, false≢true}
 use mathlib.Core.List.{List}
 use mathlib.Core.Option.{Option, none, some}
 use native.Mathlib.Omega.{arith}
+use Rattle.machine.specs.declared.Map.{Map}
 use Rattle.machine.specs.declared.RealAddress.{RealAddress}
 use Rattle.machine.specs.declared.Access.{Access}
 use Rattle.machine.specs.declared.Access.the-variants.{Fetch}
@@ -27,37 +28,6 @@ use Rattle.results.specs.declared.Out.{Out}
 use Rattle.results.specs.Ends.{End, alarmed, outAs, afterStore, AfterStore, writtenEnd, doneEnd}
 use Rattle.commands.specs.Execution.{userEnd, kernelEnd, execOf, actionEnd}
 use Rattle.commands.proofs.Modes.{forbids, forbidsKnown, forbids-byte}
-
--- ---- Addresses
-
-read-same : (v : View) (w : Access) (L a b acc : ℕ) → wrap a ≡ wrap b → readFrom v w L a acc ≡ readFrom v w L b acc
-unfolding readFrom
-read-same v w zero a b acc e = refl
-read-same v w (suc L) a b acc e = rw e (go (λ n. read-same v w L (a + 1) (b + 1) n (omega arith)) (v (record { 0 = wrap b }) w))
-  where
-    go : ((n : ℕ) → readFrom v w L (a + 1) n ≡ readFrom v w L (b + 1) n) → (t : OrAlarm Found)
-        → (t >>= (λ f. readFrom v w L (a + 1) (acc * 256 + f .byte))) ≡ (t >>= (λ f. readFrom v w L (b + 1) (acc * 256 + f .byte)))
-    go h (got f) = h (acc * 256 + f .byte)
-    go h (alarm n x) = refl
-
-pub read-virtual : (v : View) (w : Access) (L a : ℕ) → readBytes v w L (virtual a) ≡ readBytes v w L (record { 0 = a })
-read-virtual v w L a = read-same v w L (wrap a) a 0 (omega arith)
-
--- ---- Ends
-
-pub same-status : (s : ℕ) → withFlags s (flagsOf s) ≡ s
-unfolding withFlags
-same-status s = omega arith
-
-module _ (s : ℕ) (m : Memory) where
-  written : (d : Done) (t : OrAlarm RealWrites) → afterStore (storeEndOf m t) (d .registers) (withFlags s (d .flags)) ≡ writtenEnd s m d t
-  written d (got ws) = refl
-  written d (alarm n x) = refl
-
-  -- a store of what a command writes ends the command
-  pub stored-end : (v : View) (d : Done) (m' : Memory) (t : Stored) (o : Out) → AfterStore o t (withFlags s (d .flags))
-      → storedAs t m' ≡ storeEndOf m (located v (d .writes)) → outAs o (d .registers) m' ≡ doneEnd s m v (got d)
-  stored-end v d m' t o e h = e .same (d .registers) m' ∙ rw h (written d (located v (d .writes)))
 
 -- ---- A command whose byte and operands are known
 

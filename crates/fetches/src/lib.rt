@@ -6,8 +6,8 @@ ghost use Rattle.fetches.specs.Answers.{ByteOrAlarm, PairOrAlarm, PlaceO
 ghost use Rattle.lookup.specs.Answers.{FetchedFrom, Fits};
 ghost use Rattle.machine.specs.Map.{readBytes, viewBy};
 ghost use Rattle.machine.specs.Operands.{fieldsAt};
-use lookup::Beside;
 use lookup::Lookup;
+use lookup::Neighbour;
 use machine::Access;
 use machine::Alarm;
 use machine::Map;
@@ -118,10 +118,10 @@ pub fn fields(
 {
     let near = lookup::beside(start, found, x, 6);
     match near {
-        Beside::At(r) => {
+        Neighbour::At(r) => {
             return fields_at(mem, r);
         }
-        Beside::Elsewhere => {}
+        Neighbour::Elsewhere => {}
     }
     // The slice and the answer of this call alone go through memory.
     let all = mem;

@@ -10,6 +10,8 @@ use lib.Dec.{leb, eqb}
 use lib.ListN.{length}
 use Rattle.machine.specs.declared.RealAddress.{RealAddress}
 use Rattle.machine.specs.declared.VirtualAddress.{VirtualAddress}
+use Rattle.machine.specs.declared.Alarm.the-variants as alarms
+use Rattle.machine.specs.declared.Map.{Map}
 use Rattle.machine.specs.declared.Access.{Access}
 use Rattle.machine.specs.declared.Access.the-variants.{Fetch, Read, Write}
 use Rattle.machine.specs.Words.{Memory, wordAt}
@@ -17,29 +19,29 @@ use Rattle.machine.specs.Alarms.{got, alarm}
 use Rattle.machine.specs.Map.{pageOf, mapEntry, present, writable, forbiddenBits, frameOf, undamaged, foundAt, inFrame, allows, inNumberOrder, mapped}
 
 module _ (map : Map) (m : Memory) (x : VirtualAddress) (w : Access) where
-  pub mapped-8 : entries ≤ pageOf x → alarm 8 (x .0) ≡ mapped map m x w
+  pub mapped-8 : map .length ≤ pageOf x → alarm alarms.Address (x .0) ≡ mapped map m x w
   unfolding mapped inNumberOrder
-  mapped-8 h = rw (le-ltb (pageOf x) entries h)
+  mapped-8 h = rw (le-ltb (pageOf x) (map .length) h)
 
-  module _ (e : ℕ) (fits : map .base .0 + 4 * entries ≤ length m) (below : pageOf x < entries) (word : e ≡ wordAt m (map .base .0 + 4 * pageOf x)) where
+  module _ (e : ℕ) (fits : map .base .0 + 4 * map .length ≤ length m) (below : pageOf x < map .length) (word : e ≡ wordAt m (map .base .0 + 4 * pageOf x)) where
     entry : mapEntry map m (pageOf x) ≡ e
     unfolding mapEntry
     entry = rw (le-leb (map .base .0 + 4 * pageOf x + 4) (length m) (omega arith)) (sym word)
 
     by-entry : mapped map m x w ≡ inNumberOrder true (present e) (undamaged (length m) e) (allows w e) x (foundAt m (inFrame (frameOf e) x))
     unfolding mapped
-    by-entry = rw (entry, lt-ltb (pageOf x) entries below)
+    by-entry = rw (entry, lt-ltb (pageOf x) (map .length) below)
 
-    pub mapped-9 : e < 0x8000_0000 → alarm 9 (x .0) ≡ mapped map m x w
+    pub mapped-9 : e < 0x8000_0000 → alarm alarms.Absent (x .0) ≡ mapped map m x w
     unfolding present inNumberOrder
     mapped-9 h = rw (by-entry, lt-leb 0x8000_0000 e h)
 
     module _ (there : 0x8000_0000 ≤ e) (limit : length m ≤ 16777216) where
-      pub mapped-10 : length m / 512 ≤ e % 0x4000_0000 → alarm 10 (x .0) ≡ mapped map m x w
+      pub mapped-10 : length m / 512 ≤ e % 0x4000_0000 → alarm alarms.MapEntry (x .0) ≡ mapped map m x w
       unfolding present undamaged inNumberOrder frameOf
       mapped-10 h = rw (by-entry, le-leb 0x8000_0000 e there) (go (ℕ-discrete (forbiddenBits e) 0))
         where
-          go : Dec (forbiddenBits e ≡ 0) → alarm 10 (x .0) ≡ inNumberOrder true true (eqb (forbiddenBits e) 0 && leb (512 * (e % 0x100_0000) + 512) (length m)) (allows w e) x (foundAt m (inFrame (frameOf e) x))
+          go : Dec (forbiddenBits e ≡ 0) → alarm alarms.MapEntry (x .0) ≡ inNumberOrder true true (eqb (forbiddenBits e) 0 && leb (512 * (e % 0x100_0000) + 512) (length m)) (allows w e) x (foundAt m (inFrame (frameOf e) x))
           go (yes z) = rw (eq-eqb (forbiddenBits e) 0 z, lt-leb (512 * (e % 0x100_0000) + 512) (length m) (omega arith))
           go (no f) = rw (ne-eqb (forbiddenBits e) 0 f)
 
@@ -48,7 +50,7 @@ module _ (map : Map) (m : Memory) (x : VirtualAddress) (w : Access) where
         unfolding undamaged frameOf
         whole = rw (eq-eqb (forbiddenBits e) 0 (omega arith), le-leb (512 * (e % 0x100_0000) + 512) (length m) (omega arith))
 
-        pub mapped-11 : w ≡ Write → e % 0x8000_0000 < 0x4000_0000 → alarm 11 (x .0) ≡ mapped map m x w
+        pub mapped-11 : w ≡ Write → e % 0x8000_0000 < 0x4000_0000 → alarm alarms.ReadOnly (x .0) ≡ mapped map m x w
         unfolding present inNumberOrder allows writable
         mapped-11 q h = rw (by-entry, le-leb 0x8000_0000 e there, whole, q, lt-leb 0x4000_0000 (e % 0x8000_0000) h)
 

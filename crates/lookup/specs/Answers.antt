@@ -12,8 +12,8 @@ use Rattle.machine.specs.Alarms.{OrAlarm, got, alarm}
 use Rattle.machine.specs.Map.{Found, foundAt, View, viewBy}
 use Rattle.lookup.specs.declared.Lookup.{Lookup}
 use Rattle.lookup.specs.declared.Lookup.the-variants as lookup
-use Rattle.lookup.specs.declared.Beside.{Beside}
-use Rattle.lookup.specs.declared.Beside.the-variants as beside
+use Rattle.lookup.specs.declared.Neighbour.{Neighbour}
+use Rattle.lookup.specs.declared.Neighbour.the-variants as neighbour
 
 -- what a lookup relies on: numbers 1 and 4 have nothing to refuse
 pub record Fits (map : Map) (m : Memory) : Type 0 where
@@ -31,10 +31,10 @@ pub record FetchedFrom (v : View) (m : Memory) (x : VirtualAddress) (a : RealAdd
   pub hit : v x Fetch ≡ got (foundAt m a)
 
 -- in every memory of whole frames, in either mode and for every reason: where the byte at start is found at that place, the byte at x is found at a
-pub record FoundFrom (start : VirtualAddress) (found : RealAddress) (x : VirtualAddress) (a : RealAddress) : Type 1 where
+pub record FoundFrom (start : VirtualAddress) (found : RealAddress) (x : VirtualAddress) (a : RealAddress) : Type 0 where
   pub hit : (s : ℕ) (map : Map) (m : Memory) (w : Access) → length m % 512 ≡ 0 → viewBy s map m start w ≡ got (foundAt m found) → viewBy s map m x w ≡ got (foundAt m a)
 
 -- n bytes from x on lie in the page, and the first is found so
-abbrev pub FoundBeside : VirtualAddress → RealAddress → VirtualAddress → ℕ → Beside → Type 1
-FoundBeside start found x n (beside.At a) = (x .0 % 512 + n ≤ 512) × FoundFrom start found x a
-FoundBeside start found x n beside.Elsewhere = Unit {1}
+abbrev pub FoundBeside : VirtualAddress → RealAddress → VirtualAddress → ℕ → Neighbour → Type 0
+FoundBeside start found x n (neighbour.At a) = (x .0 % 512 + n ≤ 512) × FoundFrom start found x a
+FoundBeside start found x n neighbour.Elsewhere = Unit {0}

@@ -20,7 +20,7 @@ pub enum Lookup {
 }
 
 // The place of a byte in the page of one already looked up, or not there.
-pub enum Beside {
+pub enum Neighbour {
     At(RealAddress),
     Elsewhere,
 }
@@ -85,15 +85,15 @@ pub fn look(mem: &[u8], status: u32, map: Map, x: VirtualAddress, why: Access) -
 }
 
 // The byte at x, if n bytes from there on lie in the page of the byte at start, and not before it, which was found at found.
-pub fn beside(start: VirtualAddress, found: RealAddress, x: VirtualAddress, n: u32) -> Beside
-    requires { ⌜ (found .0 ≤ 16777216) × (n ≤ 512) ⌝ }
+pub fn beside(start: VirtualAddress, found: RealAddress, x: VirtualAddress, n: u32) -> Neighbour
+    requires { ⌜ (found .0 ≤ 16777216) × (1 ≤ n) × (n ≤ 512) ⌝ }
     ensures { λ r. ⌜ FoundBeside start found x n r ⌝ }
 {
     if start.0 <= x.0 {
         let k = x.0 - start.0;
         if start.0 % 512 + k <= 512 - n {
-            return Beside::At(RealAddress(found.0 + k));
+            return Neighbour::At(RealAddress(found.0 + k));
         }
     }
-    Beside::Elsewhere
+    Neighbour::Elsewhere
 }

@@ -20,7 +20,7 @@ cast-at : tie.Need-cast-at
 cast-at c = search needs
 
 shared-slice-read-wide : tie.Need-shared-slice-read-wide
-shared-slice-read-wide c = look-inside _ _ _ _ _ _ _ _ (c .before .before .before .s .given .1) (c .before .before .before .before .before .look .ensures)
+shared-slice-read-wide c = look-inside _ _ _ _ _ _ _ (c .before .before .before .s .given .1) (c .before .before .before .before .before .look .ensures)
 
 wide-requires : tie.Need-wide-requires
 wide-requires c κs = search needs

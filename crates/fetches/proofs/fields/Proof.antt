@@ -24,7 +24,7 @@ add-if2 c = search needs
 add-fields-at : tie.Need-add-fields-at
 add-fields-at c =
     let s = c .before .before .before .before .before .before .before .before .before in
-    omega (arith, found-inside _ _ _ _ _ _ _ (s .pre .1 .hit), s .pre .0 .small)
+    omega (arith, found-inside _ _ _ _ _ _ (s .pre .1 .hit), s .pre .0 .small)
 
 cast-fields-at : tie.Need-cast-fields-at
 cast-fields-at c = search needs

@@ -16,7 +16,7 @@ cast-if2 : tie.Need-cast-if2
 cast-if2 c = search needs
 
 real-requires : tie.Need-real-requires
-real-requires c κs = search needs
+real-requires c κs = le-ltb _ _ (c .before .before .if1 .left)
 
 returns-2 : tie.Need-returns-2
 unfolding viewBy unmapped

@@ -33,7 +33,7 @@ enum-known-s : tie.Need-enum-known-s Inv-loop μ-loop
 enum-known-s c = search needs
 
 cast-at : tie.Need-cast-at Inv-loop μ-loop
-cast-at c = omega (arith, look-inside _ _ _ _ _ _ _ _ (c .before .before .s .given .1) (c .before .before .before .before .look .ensures))
+cast-at c = omega (arith, look-inside _ _ _ _ _ _ _ (c .before .before .s .given .1) (c .before .before .before .before .look .ensures))
 
 mul-acc : tie.Need-mul-acc Inv-loop μ-loop
 mul-acc c =
@@ -41,7 +41,7 @@ mul-acc c =
     omega (arith, three-bytes (turn .i) (turn .acc) (omega arith) (turn .inv .1))
 
 shared-slice-read-wide : tie.Need-shared-slice-read-wide Inv-loop μ-loop
-shared-slice-read-wide c = look-inside _ _ _ _ _ _ _ _ (c .before .before .before .s .given .1) (c .before .before .before .before .before .look .ensures)
+shared-slice-read-wide c = look-inside _ _ _ _ _ _ _ (c .before .before .before .s .given .1) (c .before .before .before .before .before .look .ensures)
 
 wide-requires : tie.Need-wide-requires Inv-loop μ-loop
 wide-requires c κs = search needs

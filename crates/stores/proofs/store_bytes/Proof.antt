@@ -91,13 +91,13 @@ array-read-at : tie.Need-array-read-at Inv-loop μ-loop Inv-loop2 μ-loop2
 array-read-at c = search needs
 
 cast-at : tie.Need-cast-at Inv-loop μ-loop Inv-loop2 μ-loop2
-cast-at c = omega (arith, found-inside _ _ _ _ _ _ _ (c .before .before .before .loop .inv .1 (c .before .loop2 .j) (omega arith)))
+cast-at c = omega (arith, found-inside _ _ _ _ _ _ (c .before .before .before .loop .inv .1 (c .before .loop2 .j) (omega arith)))
 
 shared-slice-read-mem : tie.Need-shared-slice-read-mem Inv-loop μ-loop Inv-loop2 μ-loop2
 shared-slice-read-mem c = search needs
 
 slice-write-mem : tie.Need-slice-write-mem Inv-loop μ-loop Inv-loop2 μ-loop2
-slice-write-mem c = omega (arith, found-inside _ _ _ _ _ _ _ (c .before .before .before .before .loop .inv .1 (c .before .before .loop2 .j) (omega arith)))
+slice-write-mem c = omega (arith, found-inside _ _ _ _ _ _ (c .before .before .before .before .loop .inv .1 (c .before .before .loop2 .j) (omega arith)))
 
 add-j : tie.Need-add-j Inv-loop μ-loop Inv-loop2 μ-loop2
 add-j c = search needs
