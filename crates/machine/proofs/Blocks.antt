@@ -6,7 +6,7 @@ use native.Mathlib.Nat.{add-zero, div-one}
 use native.Mathlib.Numerals.{add-one}
 use native.Mathlib.Omega.{arith}
 use lib.ListN.{length, getD, set, take, drop, length-append, length-take, List·getD-eq-default}
-use lib.Seq.{drop-cons, drop-length, sets-eq, getD-take, getD-drop}
+use lib.Seq.{drop-cons, drop-length, take-at, sets-eq, getD-take, getD-drop}
 use Rattle.machine.specs.Words.{Memory, byteAt, bytesOf, bytesOfWords, wordAt, wordsAt}
 use Rattle.machine.specs.State.{Registers, reg, registersFrom}
 use Rattle.machine.specs.Map.{realWritesFrom, commit}
@@ -77,6 +77,11 @@ commit-two-more ws v w a n m l =
     let e : a + length (bytesOfWords ws) ≡ a + 4 * n = omega (arith, words-length ws) in
     let f : a + 4 * n + 4 ≡ a + (4 * n + 4) = omega arith in
     rw (words-append, commit-append (bytesOfWords ws) _ a m, e, commit-words v (w ∷ []) (a + 4 * n) _, one-word, f)
+
+-- a value that is laid into a row of bytes at its start
+pub bytes-first : (L x : ℕ) (bs : List ℕ) → L ≤ length bs → take L (commit (realWritesFrom 0 (bytesOf L x)) bs) ≡ bytesOf L x
+bytes-first L x bs l =
+    rw (commit-from, sets-eq (bytesOf L x) bs 0 (omega (arith, bytes-length L x))) (take-at (bytesOf L x) _ L (bytes-length L x))
 
 -- words that fill a row of bytes from its start
 pub row-filled : (ws bs : List ℕ) → 4 * length ws ≡ length bs → commit (realWritesFrom 0 (bytesOfWords ws)) bs ≡ bytesOfWords ws

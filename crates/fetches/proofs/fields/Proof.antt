@@ -1,48 +1,35 @@
 -- `fields` is right: in the page of the byte that was fetched the six bytes lie as far from it in memory as in the page; others are looked up.
-use Prim.Native.Nat.{_+_, _-_}
+use Prim.Native.Nat.{_+_, _%_, _≤_}
 use mathlib.Core.Path.{refl}
 use native.Mathlib.Omega.{arith}
 use borrow.Author.Needs.{needs}
 use Rattle.machine.specs.declared.Access.the-variants.{Fetch}
 use Rattle.machine.proofs.Pages.{found-inside, Finds, page-inside}
-use Rattle.lookup.proofs.Lookups.{finds-later}
 use Rattle.fetches.proofs.OnePage.{fields-page}
 use Rattle.fetches.proofs.fields.Statement.{statement}
 use Rattle.fetches.proofs.fields.Tie as tie
 
+beside-requires : tie.Need-beside-requires
+beside-requires c κs =
+    let s = c .before in
+    (omega (arith, found-inside _ _ _ _ _ _ (s .pre .1 .hit), s .pre .0 .small), omega arith, omega arith)
+
 -- the first of the six bytes is found
-found : (c : tie.After-struct-known6)
-    → let a = c .before .before .before .before .before .before .before .before .before .args in
-    Finds (a .status) (a .map) (a .mem .now) (a .x) Fetch (record { 0 = a .found .0 + (a .x .0 - a .start .0) })
+found : (c : tie.After-near) → let a = c .before .before .before .before .args in
+    (a .x .0 % 512 + 6 ≤ 512) × Finds (a .status) (a .map) (a .mem .now) (a .x) Fetch (c .near .given .0 .0)
 found c =
-    let s = c .before .before .before .before .before .before .before .before .before in
-    finds-later (record { small = omega arith; whole = s .pre .0 .whole; hit = s .pre .1 .hit }) (s .args .x) (omega arith) (omega arith) (omega arith)
-
-add-if2 : tie.Need-add-if2
-add-if2 c = search needs
-
-add-fields-at : tie.Need-add-fields-at
-add-fields-at c =
-    let s = c .before .before .before .before .before .before .before .before .before in
-    omega (arith, found-inside _ _ _ _ _ _ (s .pre .1 .hit), s .pre .0 .small)
-
-cast-fields-at : tie.Need-cast-fields-at
-cast-fields-at c = search needs
+    let s = c .before .before .before .before in
+    let a = s .args in
+    let near = rw (c .near .given .1) at (c .before .before .beside .ensures) in
+    (near .0, record { small = omega arith; whole = s .pre .0 .whole; hit = near .1 .hit (a .status) (a .map) (a .mem .now) Fetch (s .pre .0 .whole) (s .pre .1 .hit) })
 
 fields-at-requires : tie.Need-fields-at-requires
-fields-at-requires c κs = page-inside (found c) 6 (omega arith) (omega arith)
+fields-at-requires c κs = let f = found (c .before) in page-inside (f .1) 6 (omega arith) (f .0)
 
 returns : tie.Need-returns
-returns c = (rw (c .fields-at .ensures .0) (fields-page (found (c .before)) (omega arith) _ _ _ refl refl refl), c .fields-at .ensures .1)
-
-fields-anew-requires : tie.Need-fields-anew-requires
-fields-anew-requires c κs = search needs
-
-enum-known-f : tie.Need-enum-known-f
-enum-known-f c = search needs
-
-enum-known-f-2 : tie.Need-enum-known-f-2
-enum-known-f-2 c = search needs
+returns c =
+    let f = found (c .before .before) in
+    (rw (c .fields-at .ensures .0) (fields-page (f .1) (f .0) _ _ _ refl refl refl), c .fields-at .ensures .1)
 
 returns-2 : tie.Need-returns-2
 returns-2 c = rw (c .before .f .given .1) at (c .before .before .before .fields-anew .ensures)
@@ -54,13 +41,13 @@ pub fields-spec : {M : Type 1} → statement M
 fields-spec =
     tie.close
     (tie.spec
-    add-if2
-    add-fields-at
-    cast-fields-at
+    beside-requires
+    (λ c. search needs)
     fields-at-requires
     returns
-    fields-anew-requires
-    enum-known-f
-    enum-known-f-2
+    (λ c. search needs)
+    (λ c κs. search needs)
+    (λ c. search needs)
+    (λ c. search needs)
     returns-2
     returns-3)

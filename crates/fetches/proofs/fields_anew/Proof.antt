@@ -13,43 +13,25 @@ use Rattle.fetches.proofs.fields_anew.Tie as tie
 found : (c : tie.After-s) → let a = c .before .before .before .before .before .before .args in Finds (a .status) (a .map) (a .mem .now) (a .x) Fetch (c .s .given .0 .0)
 found c = let looked = c .before .before in look-found (c .s .given .1) (looked .look .ensures) (looked .before .before .before .before .pre) (omega arith)
 
-look-requires : tie.Need-look-requires
-look-requires c κs = search needs
-
-enum-known-s : tie.Need-enum-known-s
-enum-known-s c = search needs
-
-cast-fields-at : tie.Need-cast-fields-at
-cast-fields-at c = search needs
-
 fields-at-requires : tie.Need-fields-at-requires
-fields-at-requires c κs = page-inside (found (c .before .before)) 6 (omega arith) (omega arith)
+fields-at-requires c κs = page-inside (found (c .before)) 6 (omega arith) (omega arith)
 
 returns : tie.Need-returns
-returns c = (rw (c .fields-at .ensures .0) (fields-page (found (c .before .before .before)) (omega arith) _ _ _ refl refl refl), c .fields-at .ensures .1)
-
-enum-known-s-2 : tie.Need-enum-known-s-2
-enum-known-s-2 c = search needs
+returns c =
+    (rw (c .fields-at .ensures .0) (fields-page (found (c .before .before)) (omega arith) _ _ _ refl refl refl), c .fields-at .ensures .1)
 
 returns-2 : tie.Need-returns-2
 returns-2 c = (fields-alarm (look-alarm (c .before .s2 .given .1) (c .before .before .before .look .ensures) (omega arith)), tt)
-
-fields-bytewise-requires : tie.Need-fields-bytewise-requires
-fields-bytewise-requires c κs = search needs
-
-returns-3 : tie.Need-returns-3
-returns-3 c = search needs
 
 pub fields-anew-spec : {M : Type 1} → statement M
 fields-anew-spec =
     tie.close
     (tie.spec
-    look-requires
-    enum-known-s
-    cast-fields-at
+    (λ c κs. search needs)
+    (λ c. search needs)
     fields-at-requires
     returns
-    enum-known-s-2
+    (λ c. search needs)
     returns-2
-    fields-bytewise-requires
-    returns-3)
+    (λ c κs. search needs)
+    (λ c. search needs))

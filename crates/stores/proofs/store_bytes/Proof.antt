@@ -21,11 +21,11 @@ abbrev μ-loop : tie.MeasureT-loop
 μ-loop mem status map x bytes n source places₀ i₀ places i = n - i
 
 abbrev Inv-loop2 : tie.InvT-loop2
-Inv-loop2 mem₀ status entries bytes n source places i j₀ mem j =
+Inv-loop2 mem₀ status bytes n source places i j₀ mem j =
     (j ≤ n) × (length mem ≡ length mem₀) × (commit (writesTo (n - j) j places bytes) mem ≡ commit (writesTo n 0 places bytes) mem₀)
 
 abbrev μ-loop2 : tie.MeasureT-loop2
-μ-loop2 mem₀ status entries bytes n source places i j₀ mem j = n - j
+μ-loop2 mem₀ status bytes n source places i j₀ mem j = n - j
 
 loop-holds : tie.Need-loop-holds Inv-loop μ-loop Inv-loop2 μ-loop2
 loop-holds c = (omega arith, λ k h. absurd (omega arith), refl)
@@ -45,8 +45,8 @@ enum-known-s c = search needs
 mul-places : tie.Need-mul-places Inv-loop μ-loop Inv-loop2 μ-loop2
 mul-places c = search needs
 
-array-write-places : tie.Need-array-write-places Inv-loop μ-loop Inv-loop2 μ-loop2
-array-write-places c = search needs
+array-set-from-places : tie.Need-array-set-from-places Inv-loop μ-loop Inv-loop2 μ-loop2
+array-set-from-places c = search needs
 
 enum-known-s-2 : tie.Need-enum-known-s-2 Inv-loop μ-loop Inv-loop2 μ-loop2
 enum-known-s-2 c = search needs
@@ -84,20 +84,24 @@ loop-again c =
 loop2-holds : tie.Need-loop2-holds Inv-loop μ-loop Inv-loop2 μ-loop2
 loop2-holds c = (omega arith, refl, rw sub-zero)
 
-mul-at : tie.Need-mul-at Inv-loop μ-loop Inv-loop2 μ-loop2
-mul-at c = search needs
+mul-place : tie.Need-mul-place Inv-loop μ-loop Inv-loop2 μ-loop2
+mul-place c = search needs
 
-array-read-at : tie.Need-array-read-at Inv-loop μ-loop Inv-loop2 μ-loop2
-array-read-at c = search needs
+array-copy-out-place : tie.Need-array-copy-out-place Inv-loop μ-loop Inv-loop2 μ-loop2
+array-copy-out-place c = search needs
 
 cast-at : tie.Need-cast-at Inv-loop μ-loop Inv-loop2 μ-loop2
-cast-at c = omega (arith, found-inside _ _ _ _ _ _ (c .before .before .before .loop .inv .1 (c .before .loop2 .j) (omega arith)))
+cast-at c =
+    let second = c .before .before .before in
+    omega (arith, found-inside _ _ _ _ _ _ (second .before .before .loop .inv .1 (second .loop2 .j) (omega arith)))
 
 shared-slice-read-mem : tie.Need-shared-slice-read-mem Inv-loop μ-loop Inv-loop2 μ-loop2
 shared-slice-read-mem c = search needs
 
 slice-write-mem : tie.Need-slice-write-mem Inv-loop μ-loop Inv-loop2 μ-loop2
-slice-write-mem c = omega (arith, found-inside _ _ _ _ _ _ (c .before .before .before .before .loop .inv .1 (c .before .before .loop2 .j) (omega arith)))
+slice-write-mem c =
+    let second = c .before .before .before .before in
+    omega (arith, found-inside _ _ _ _ _ _ (second .before .before .loop .inv .1 (second .loop2 .j) (omega arith)))
 
 add-j : tie.Need-add-j Inv-loop μ-loop Inv-loop2 μ-loop2
 add-j c = search needs
@@ -107,10 +111,10 @@ loop2-less c = search needs
 
 loop2-again : tie.Need-loop2-again Inv-loop μ-loop Inv-loop2 μ-loop2
 loop2-again c =
-    let b = c .before .before .loop2 in (
+    let b = c .before .before .before .before .loop2 in (
       omega arith,
       simp length-set (b .inv .1),
-      sym (one-written _ _ _ _ (b .j) (c .before .loop2-test .taken)) ∙ b .inv .2,
+      sym (one-written _ _ _ _ (b .j) (c .before .before .before .loop2-test .taken)) ∙ b .inv .2,
     )
 
 same-length-2 : tie.Need-same-length-2 Inv-loop μ-loop Inv-loop2 μ-loop2
@@ -137,7 +141,7 @@ store-bytes-spec =
     look-requires
     enum-known-s
     mul-places
-    array-write-places
+    array-set-from-places
     enum-known-s-2
     same-length
     returns
@@ -145,8 +149,8 @@ store-bytes-spec =
     loop-less
     loop-again
     loop2-holds
-    mul-at
-    array-read-at
+    mul-place
+    array-copy-out-place
     cast-at
     shared-slice-read-mem
     slice-write-mem
