@@ -1,2 +1,1 @@
-mod Sized
-mod Outcomes
+pub mod Sized

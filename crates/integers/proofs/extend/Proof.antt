@@ -1,4 +1,4 @@
--- `extend` is right: a byte with its highest bit set stands for 256 less, and a word with its highest bit set for 2 ^ 32 less.
+-- `extend` is right: a byte with its highest bit set stands for 256 less, and a word with it set for 2 ^ 32 less.
 use borrow.Author.Needs.{needs}
 use native.Mathlib.Omega.{arith}
 use Prim.Native.Nat.{_%_}
@@ -8,16 +8,17 @@ use Rattle.machine.proofs.Magnitudes.{kept-extension}
 use Rattle.integers.proofs.extend.Statement.{statement}
 use Rattle.integers.proofs.extend.Tie as tie
 
-add-result : tie.Need-add-result
-add-result c = search needs
-
 returns : tie.Need-returns
 unfolding negative
-returns c = rw (kept-extension 1 (c .before .args .a % 256) (omega arith) 4 (omega arith), le-leb 128 (c .before .args .a % 256) (c .if1 .taken))
+returns c =
+    let x = c .before .args .a % 256 in
+    rw (kept-extension 1 x (omega arith) 4 (omega arith), le-leb 128 x (c .if1 .taken))
 
 returns-2 : tie.Need-returns-2
 unfolding negative
-returns-2 c = rw (kept-extension 1 (c .before .args .a % 256) (omega arith) 4 (omega arith), lt-leb 128 (c .before .args .a % 256) (c .if1 .left))
+returns-2 c =
+    let x = c .before .args .a % 256 in
+    rw (kept-extension 1 x (omega arith) 4 (omega arith), lt-leb 128 x (c .if1 .left))
 
 pub extend-spec : {M : Type 1} → statement M
-extend-spec = tie.close (tie.spec add-result returns returns-2)
+extend-spec = tie.close (tie.spec (λ c. search needs) returns returns-2)

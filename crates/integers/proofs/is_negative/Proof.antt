@@ -4,12 +4,9 @@ use Rattle.machine.specs.Integers.{negative}
 use Rattle.integers.proofs.is_negative.Statement.{statement}
 use Rattle.integers.proofs.is_negative.Tie as tie
 
-half-of-requires : tie.Need-half-of-requires
-half-of-requires c κs = search needs
-
 returns : tie.Need-returns
 unfolding negative
 returns c = rw (c .half-of .ensures .0)
 
 pub is-negative-spec : {M : Type 1} → statement M
-is-negative-spec = tie.close (tie.spec half-of-requires returns)
+is-negative-spec = tie.close (tie.spec (λ c κs. search needs) returns)
