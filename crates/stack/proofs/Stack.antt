@@ -6,9 +6,10 @@ use native.Mathlib.Nat.{add-zero, zero-add}
 use native.Mathlib.Numerals.{add-one}
 use native.Mathlib.Omega.{arith}
 use borrow.Author.Tests.{eq-eqb, ne-eqb}
-use lib.ListN.{length, getD, set, take, length-append, List·getD-append}
-use lib.Seq.{take-all, getD-append-add}
+use lib.ListN.{length, set, take, replicate, length-append}
+use lib.Seq.{take-all, set-append-seam}
 use Rattle.machine.specs.declared.Access.the-variants.{Read}
+use Rattle.machine.specs.declared.Alarm.{Alarm}
 use Rattle.machine.specs.Words.{bytesOf, bytesOfWords, wrap, raised, lowered}
 use Rattle.machine.specs.State.{Registers, reg, registersFrom}
 use Rattle.machine.specs.Alarms.{got, alarm}
@@ -25,7 +26,7 @@ module _ (v : View) (n i : ℕ) (r : Registers) where
   unfolding popped
   popped-next h w e = let p : n - i ≡ suc (n - (i + 1)) = omega arith in rw (p, read-virtual, ← e, add-one i)
 
-  pub popped-alarm : i < n → (k x : ℕ) → alarm k x ≡ readBytes v Read 4 (record { 0 = reg r 14 }) → popped v (n - i) i r ≡ alarm k x
+  pub popped-alarm : i < n → (k : Alarm) (x : ℕ) → alarm k x ≡ readBytes v Read 4 (record { 0 = reg r 14 }) → popped v (n - i) i r ≡ alarm k x
   unfolding popped
   popped-alarm h k x e = let p : n - i ≡ suc (n - (i + 1)) = omega arith in rw (p, read-virtual, ← e)
 
@@ -100,27 +101,21 @@ pushed-all sp r f =
     ∙ pushed-registers 14 (lowered sp 4) r (writesFrom (lowered sp 4) (bytesOf 4 (lowered sp 4)) ++ []) f (omega arith) (omega arith)
     ∙ rw (low, append-nil, word-after (registersFrom 14 0 r) (lowered sp 4) (lowered sp 60) (lowered sp 4) (rw (registers-length 14 0 r) (up-again sp 56 (omega arith))))
 
--- ---- The row of bytes
-
-register-at : (k j i : ℕ) (r : Registers) → i < k → getD (registersFrom k j r) i 0 ≡ reg r (j + i)
-unfolding registersFrom
-register-at zero j i r h = absurd (omega arith)
-register-at (suc k) j zero r h = rw add-zero
-register-at (suc k) j (suc i) r h =
-    let e : suc j + i ≡ j + suc i = omega arith in
-    rw (← e) (register-at k (suc j) i r (omega arith))
+-- ---- The row of words: R0 to R13 in their places, then SP
 
 module _ (r : Registers) (sp : ℕ) where
+  -- the row once i registers are in their places
+  abbrev pub rowAt : ℕ → List ℕ
+  rowAt i = registersFrom i 0 r ++ replicate (15 - i) sp
+
+  pub row-next : (i : ℕ) → i < 14 → set (rowAt i) i (reg r i) ≡ rowAt (i + 1)
+  row-next i h =
+      let n : 15 - i ≡ suc (15 - (i + 1)) = omega arith in
+      let seam : set (registersFrom i 0 r ++ sp ∷ replicate (15 - (i + 1)) sp) i (reg r i) ≡ registersFrom i 0 r ++ reg r i ∷ replicate (15 - (i + 1)) sp = rw (registers-length i 0 r) at (set-append-seam (registersFrom i 0 r) sp (replicate (15 - (i + 1)) sp) (reg r i)) in
+      rw (n, seam, add-one i, registers-last i 0 r, zero-add i, append-assoc)
+
   pub row-length : length (registersFrom 14 0 r ++ sp ∷ []) ≡ 15
   row-length = rw (length-append, registers-length 14 0 r)
-
-  pub row-register : (i : ℕ) → i < 14 → getD (registersFrom 14 0 r ++ sp ∷ []) i 0 ≡ reg r i
-  row-register i h =
-      let l : i < length (registersFrom 14 0 r) = omega (arith, registers-length 14 0 r) in
-      List·getD-append (registersFrom 14 0 r) (sp ∷ []) 0 i l ∙ (rw zero-add at (register-at 14 0 i r h))
-
-  pub row-sp : getD (registersFrom 14 0 r ++ sp ∷ []) 14 0 ≡ sp
-  row-sp = rw (registers-length 14 0 r) at (getD-append-add (registersFrom 14 0 r) (sp ∷ []) 0 0)
 
   pub row-bytes : take 60 (bytesOfWords (registersFrom 14 0 r ++ sp ∷ [])) ≡ bytesOfWords (registersFrom 14 0 r ++ sp ∷ [])
   row-bytes = take-all 60 (bytesOfWords (registersFrom 14 0 r ++ sp ∷ [])) (omega (arith, row-length, words-length (registersFrom 14 0 r ++ sp ∷ [])))

@@ -5,12 +5,6 @@ use Rattle.machine.specs.State.{blockFits}
 use Rattle.checks.proofs.block_fits.Statement.{statement}
 use Rattle.checks.proofs.block_fits.Tie as tie
 
-cast-result : tie.Need-cast-result
-cast-result c = search needs
-
-add-result : tie.Need-add-result
-add-result c = search needs
-
 returns : tie.Need-returns
 unfolding blockFits
 returns c = simp (eq-eqb _ _ (c .before .if1 .taken))
@@ -20,4 +14,4 @@ unfolding blockFits
 returns-2 c = simp (ne-eqb _ _ (c .if1 .left))
 
 pub block-fits-spec : {M : Type 1} → statement M
-block-fits-spec = tie.close (tie.spec cast-result add-result returns returns-2)
+block-fits-spec = tie.close (tie.spec (λ c. search needs) (λ c. search needs) returns returns-2)

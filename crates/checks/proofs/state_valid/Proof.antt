@@ -5,9 +5,6 @@ use Rattle.machine.specs.State.{isPending}
 use Rattle.checks.proofs.state_valid.Statement.{statement}
 use Rattle.checks.proofs.state_valid.Tie as tie
 
-is-valid-requires : tie.Need-is-valid-requires
-is-valid-requires c κs = search needs
-
 returns : tie.Need-returns
 unfolding isPending
 returns c = simp (← c .before .is-valid .ensures, c .if1 .taken, div-one)
@@ -16,4 +13,4 @@ returns-2 : tie.Need-returns-2
 returns-2 c = simp (← c .before .is-valid .ensures, c .if1 .left)
 
 pub state-valid-spec : {M : Type 1} → statement M
-state-valid-spec = tie.close (tie.spec is-valid-requires returns returns-2)
+state-valid-spec = tie.close (tie.spec (λ c κs. search needs) returns returns-2)

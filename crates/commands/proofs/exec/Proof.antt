@@ -5,24 +5,6 @@ use Rattle.commands.proofs.Laws.{exec-unfetched, exec-forbidden, exec-a
 use Rattle.commands.proofs.exec.Statement.{statement}
 use Rattle.commands.proofs.exec.Tie as tie
 
-element-copy-out-pc : tie.Need-element-copy-out-pc
-element-copy-out-pc c = search needs
-
-fetch-requires : tie.Need-fetch-requires
-fetch-requires c κs = search needs
-
-enum-known-c : tie.Need-enum-known-c
-enum-known-c c = search needs
-
-enum-known-c-2 : tie.Need-enum-known-c-2
-enum-known-c-2 c = search needs
-
-forbidden-requires : tie.Need-forbidden-requires
-forbidden-requires c κs = search needs
-
-same-length : tie.Need-same-length
-same-length c = search needs
-
 returns : tie.Need-returns
 returns c =
     let mode = c .before in
@@ -30,12 +12,6 @@ returns c =
     let fetched = mode .before .before .before .before .fetch .ensures in
     let a = mode .before .before .before .before .before .before .before .before .args in
     exec-forbidden (a .status) (a .map) (a .regs .now) (a .mem .now) _ (rw byte at (fetched .0)) (rw byte at (fetched .1 .0)) (sym (mode .forbidden .ensures) ∙ c .if1 .taken)
-
-plus-requires : tie.Need-plus-requires
-plus-requires c κs = search needs
-
-element-write-regs : tie.Need-element-write-regs
-element-write-regs c = search needs
 
 rules-of-requires : tie.Need-rules-of-requires
 rules-of-requires c κs =
@@ -47,28 +23,13 @@ take-all-requires c κs =
     let fetched = c .before .before .before .before .before .before .before .before .before in
     (fetched .before .before .before .before .pre .0, rw (c .before .before .before .before .before .before .before .c2 .given .1) at (fetched .fetch .ensures .1 .1), c .before .before .rules-of .ensures .1)
 
-enum-known-o : tie.Need-enum-known-o
-enum-known-o c = search needs
-
-enum-known-o-2 : tie.Need-enum-known-o-2
-enum-known-o-2 c = search needs
-
-asked-of-requires : tie.Need-asked-of-requires
-asked-of-requires c κs = search needs
-
 finish-requires : tie.Need-finish-requires
 finish-requires c κs = (c .before .before .before .before .before .before .before .before .before .before .before .before .before .before .before .before .before .before .before .before .pre .0, rw (c .before .before .before .before .o2 .given .1) at (c .before .before .before .before .before .before .take-all .ensures .1))
-
-same-length-2 : tie.Need-same-length-2
-same-length-2 c = search needs
 
 returns-2 : tie.Need-returns-2
 returns-2 c =
     let a = c .before .before .before .before .before .before .before .args in
     exec-unfetched (a .status) (a .map) (a .regs .now) (a .mem .now) _ _ (rw (c .before .c .given .1) at (c .before .before .before .fetch .ensures .0))
-
-same-length-3 : tie.Need-same-length-3
-same-length-3 c = search needs
 
 returns-3 : tie.Need-returns-3
 returns-3 c =
@@ -78,9 +39,6 @@ returns-3 c =
     let a = mode .before .before .before .before .before .before .before .before .args in
     exec-alarm (a .status) (a .map) (a .regs .now) (a .mem .now) _ (rw byte at (fetched .0)) (rw byte at (fetched .1 .0)) (sym (mode .forbidden .ensures) ∙ c .before .before .before .before .before .before .before .before .if1 .left) _ _
     (rw (c .before .o .given .1, c .before .before .before .before .before .before .rules-of .ensures .0, c .before .before .before .before .before .before .before .plus .ensures) at (c .before .before .before .take-all .ensures .0))
-
-same-length-4 : tie.Need-same-length-4
-same-length-4 c = search needs
 
 returns-4 : tie.Need-returns-4
 returns-4 c =
@@ -97,24 +55,24 @@ pub exec-spec : {M : Type 1} → statement M
 exec-spec =
     tie.close
     (tie.spec
-    element-copy-out-pc
-    fetch-requires
-    enum-known-c
-    enum-known-c-2
-    forbidden-requires
-    same-length
+    (λ c. search needs)
+    (λ c κs. search needs)
+    (λ c. search needs)
+    (λ c. search needs)
+    (λ c κs. search needs)
+    (λ c. search needs)
     returns
-    plus-requires
-    element-write-regs
+    (λ c κs. search needs)
+    (λ c. search needs)
     rules-of-requires
     take-all-requires
-    enum-known-o
-    enum-known-o-2
-    asked-of-requires
+    (λ c. search needs)
+    (λ c. search needs)
+    (λ c κs. search needs)
     finish-requires
-    same-length-2
+    (λ c. search needs)
     returns-2
-    same-length-3
+    (λ c. search needs)
     returns-3
-    same-length-4
+    (λ c. search needs)
     returns-4)

@@ -4,21 +4,6 @@ use Rattle.machine.specs.Calls.{freshReply, freshDesk, freshOf}
 use Rattle.desk.proofs.fresh.Statement.{statement}
 use Rattle.desk.proofs.fresh.Tie as tie
 
-block-refusal-requires : tie.Need-block-refusal-requires
-block-refusal-requires c κs = search needs
-
-enum-known-blocks : tie.Need-enum-known-blocks
-enum-known-blocks c = search needs
-
-refused-fresh-requires : tie.Need-refused-fresh-requires
-refused-fresh-requires c κs = search needs
-
-enum-told : tie.Need-enum-told
-enum-told c = search needs
-
-array-write-registers : tie.Need-array-write-registers
-array-write-registers c = search needs
-
 returns : tie.Need-returns
 unfolding freshOf freshReply
 returns c = simp (c .refused-fresh .ensures, ← c .before .before .before .before .block-refusal .ensures, c .before .before .blocks2 .given .1)
@@ -31,10 +16,10 @@ pub fresh-spec : {M : Type 1} → statement M
 fresh-spec =
     tie.close
     (tie.spec
-    block-refusal-requires
-    enum-known-blocks
-    refused-fresh-requires
-    enum-told
-    array-write-registers
+    (λ c κs. search needs)
+    (λ c. search needs)
+    (λ c κs. search needs)
+    (λ c. search needs)
+    (λ c. search needs)
     returns
     returns-2)

@@ -6,9 +6,6 @@ use Rattle.checks.proofs.Tests.{fails, holds}
 use Rattle.desk.proofs.request.Statement.{statement}
 use Rattle.desk.proofs.request.Tie as tie
 
-state-valid-requires : tie.Need-state-valid-requires
-state-valid-requires c κs = search needs
-
 returns : tie.Need-returns
 unfolding requestOf requestOutcome requestRefusal unlessRefused unchanged firstRefused passes5 passes6
 returns c = simp (fails (c .before .state-valid .ensures) (c .if1 .taken))
@@ -21,9 +18,6 @@ returns-3 : tie.Need-returns-3
 unfolding requestOf requestOutcome requestRefusal unlessRefused unchanged firstRefused passes5 passes6
 returns-3 c = simp (holds (c .before .before .before .state-valid .ensures) (c .before .before .if1 .left), le-leb _ _ (c .before .if2 .left), lt-leb _ _ (c .if3 .taken))
 
-with-level-requires : tie.Need-with-level-requires
-with-level-requires c κs = search needs
-
 returns-4 : tie.Need-returns-4
 unfolding requestOf requestOutcome requestRefusal unlessRefused unchanged firstRefused passes5 passes6
 returns-4 c =
@@ -33,4 +27,4 @@ returns-4 c =
 pub request-spec : {M : Type 1} → statement M
 request-spec =
     tie.close
-    (tie.spec state-valid-requires returns returns-2 returns-3 with-level-requires returns-4)
+    (tie.spec (λ c κs. search needs) returns returns-2 returns-3 (λ c κs. search needs) returns-4)

@@ -3,11 +3,8 @@ use borrow.Author.Needs.{needs}
 use Rattle.entry.proofs.done.Statement.{statement}
 use Rattle.entry.proofs.done.Tie as tie
 
-with-requires : tie.Need-with-requires
-with-requires c κs = search needs
-
 returns : tie.Need-returns
 returns c = rw (c .with .ensures)
 
 pub done-spec : {M : Type 1} → statement M
-done-spec = tie.close (tie.spec with-requires returns)
+done-spec = tie.close (tie.spec (λ c κs. search needs) returns)

@@ -7,38 +7,11 @@ use Rattle.checks.proofs.Tests.{fails, holds}
 use Rattle.entry.proofs.enter.Statement.{statement}
 use Rattle.entry.proofs.enter.Tie as tie
 
-entry-status-requires : tie.Need-entry-status-requires
-entry-status-requires c κs = search needs
-
-is-valid-kernel-requires : tie.Need-is-valid-kernel-requires
-is-valid-kernel-requires c κs = search needs
-
-stop-requires : tie.Need-stop-requires
-stop-requires c κs = search needs
-
-same-length : tie.Need-same-length
-same-length c = search needs
-
 returns : tie.Need-returns
 unfolding systemBlockOf commit stop enterIf concluded
 returns c =
     let v = c .before .before in
     simp (c .stop .ensures, ← v .before .entry-status .ensures, fails (v .is-valid-kernel .ensures) (c .before .if1 .taken))
-
-entry-r15-requires : tie.Need-entry-r15-requires
-entry-r15-requires c κs = search needs
-
-save-requires : tie.Need-save-requires
-save-requires c κs = search needs
-
-array-write-work : tie.Need-array-write-work
-array-write-work c = search needs
-
-with-requires : tie.Need-with-requires
-with-requires c κs = search needs
-
-same-length-2 : tie.Need-same-length-2
-same-length-2 c = search needs
 
 returns-2 : tie.Need-returns-2
 unfolding systemBlockOf enterIf concluded
@@ -52,14 +25,14 @@ pub enter-spec : {M : Type 1} → statement M
 enter-spec =
     tie.close
     (tie.spec
-    entry-status-requires
-    is-valid-kernel-requires
-    stop-requires
-    same-length
+    (λ c κs. search needs)
+    (λ c κs. search needs)
+    (λ c κs. search needs)
+    (λ c. search needs)
     returns
-    entry-r15-requires
-    save-requires
-    array-write-work
-    with-requires
-    same-length-2
+    (λ c κs. search needs)
+    (λ c κs. search needs)
+    (λ c. search needs)
+    (λ c κs. search needs)
+    (λ c. search needs)
     returns-2)

@@ -3,21 +3,9 @@ use borrow.Author.Needs.{needs}
 use Rattle.entry.proofs.enter_level.Statement.{statement}
 use Rattle.entry.proofs.enter_level.Tie as tie
 
-without-level-requires : tie.Need-without-level-requires
-without-level-requires c κs = search needs
-
-add-enter : tie.Need-add-enter
-add-enter c = search needs
-
-enter-requires : tie.Need-enter-requires
-enter-requires c κs = search needs
-
-same-length : tie.Need-same-length
-same-length c = search needs
-
 returns : tie.Need-returns
 returns c = rw (← c .before .before .before .before .without-level .ensures) (c .before .before .enter .ensures)
 
 pub enter-level-spec : {M : Type 1} → statement M
 enter-level-spec =
-    tie.close (tie.spec without-level-requires add-enter enter-requires same-length returns)
+    tie.close (tie.spec (λ c κs. search needs) (λ c. search needs) (λ c κs. search needs) (λ c. search needs) returns)

@@ -18,42 +18,15 @@ fits c = holds (c .before .block-fits .ensures) (c .if1 .left)
 inside : (c : tie.Else1) → c .before .before .before .args .a .0 + 80 ≤ length (c .before .before .before .args .mem .now)
 inside c = block-inside _ _ _ (fits c)
 
-block-fits-requires : tie.Need-block-fits-requires
-block-fits-requires c κs = search needs
-
-stop-requires : tie.Need-stop-requires
-stop-requires c κs = search needs
-
 returns : tie.Need-returns
 unfolding resume
 returns c = simp (c .stop .ensures, fails (c .before .before .block-fits .ensures) (c .before .if1 .taken))
 
-cast-at : tie.Need-cast-at
-cast-at c = search needs
-
-add-word : tie.Need-add-word
-add-word c = search needs
-
 word-requires : tie.Need-word-requires
 word-requires c κs = omega (arith, inside (c .before))
 
-add-word-2 : tie.Need-add-word-2
-add-word-2 c = search needs
-
 word-requires-2 : tie.Need-word-requires-2
 word-requires-2 c κs = omega (arith, inside (c .before .before))
-
-cast-block-fits : tie.Need-cast-block-fits
-cast-block-fits c = search needs
-
-mul-block-fits : tie.Need-mul-block-fits
-mul-block-fits c = search needs
-
-block-fits-requires-2 : tie.Need-block-fits-requires-2
-block-fits-requires-2 c κs = search needs
-
-stop-requires-2 : tie.Need-stop-requires-2
-stop-requires-2 c κs = search needs
 
 returns-2 : tie.Need-returns-2
 unfolding resume
@@ -62,17 +35,8 @@ returns-2 c =
     let w = m .before in
     simp (c .stop2 .ensures, ← w .before .word .ensures, ← w .word2 .ensures, fits (w .before .before .before), fails (m .block-fits2 .ensures) (c .before .if2 .taken))
 
-add-word-3 : tie.Need-add-word-3
-add-word-3 c = search needs
-
 word-requires-3 : tie.Need-word-requires-3
 word-requires-3 c κs = omega (arith, inside (c .before .before .before .before .before))
-
-is-valid-user-requires : tie.Need-is-valid-user-requires
-is-valid-user-requires c κs = search needs
-
-stop-requires-3 : tie.Need-stop-requires-3
-stop-requires-3 c κs = search needs
 
 returns-3 : tie.Need-returns-3
 unfolding resume
@@ -97,23 +61,23 @@ pub resume-spec : {M : Type 1} → statement M
 resume-spec =
     tie.close
     (tie.spec
-    block-fits-requires
-    stop-requires
+    (λ c κs. search needs)
+    (λ c κs. search needs)
     returns
-    cast-at
-    add-word
+    (λ c. search needs)
+    (λ c. search needs)
     word-requires
-    add-word-2
+    (λ c. search needs)
     word-requires-2
-    cast-block-fits
-    mul-block-fits
-    block-fits-requires-2
-    stop-requires-2
+    (λ c. search needs)
+    (λ c. search needs)
+    (λ c κs. search needs)
+    (λ c κs. search needs)
     returns-2
-    add-word-3
+    (λ c. search needs)
     word-requires-3
-    is-valid-user-requires
-    stop-requires-3
+    (λ c κs. search needs)
+    (λ c κs. search needs)
     returns-3
     load-requires
     returns-4)

@@ -4,12 +4,9 @@ use Rattle.machine.specs.Steps.{stop}
 use Rattle.entry.proofs.stop.Statement.{statement}
 use Rattle.entry.proofs.stop.Tie as tie
 
-with-requires : tie.Need-with-requires
-with-requires c κs = search needs
-
 returns : tie.Need-returns
 unfolding stop
 returns c = rw (c .with .ensures)
 
 pub stop-spec : {M : Type 1} → statement M
-stop-spec = tie.close (tie.spec with-requires returns)
+stop-spec = tie.close (tie.spec (λ c κs. search needs) returns)

@@ -10,23 +10,8 @@ use Rattle.reads.proofs.OnePage.{read-page}
 use Rattle.fetches.proofs.fetch.Statement.{statement}
 use Rattle.fetches.proofs.fetch.Tie as tie
 
-look-requires : tie.Need-look-requires
-look-requires c κs = search needs
-
-enum-known-s : tie.Need-enum-known-s
-enum-known-s c = search needs
-
-cast-at : tie.Need-cast-at
-cast-at c = search needs
-
 shared-slice-read-wide : tie.Need-shared-slice-read-wide
 shared-slice-read-wide c = look-inside _ _ _ _ _ _ _ (c .before .before .before .s .given .1) (c .before .before .before .before .before .look .ensures)
-
-wide-requires : tie.Need-wide-requires
-wide-requires c κs = search needs
-
-enum-known-s-2 : tie.Need-enum-known-s-2
-enum-known-s-2 c = search needs
 
 returns : tie.Need-returns
 returns c =
@@ -43,11 +28,11 @@ pub fetch-spec : {M : Type 1} → statement M
 fetch-spec =
     tie.close
     (tie.spec
-    look-requires
-    enum-known-s
-    cast-at
+    (λ c κs. search needs)
+    (λ c. search needs)
+    (λ c. search needs)
     shared-slice-read-wide
-    wide-requires
-    enum-known-s-2
+    (λ c κs. search needs)
+    (λ c. search needs)
     returns
     returns-2)

@@ -11,39 +11,6 @@ use Rattle.fetches.proofs.fields_bytewise.Tie as tie
 unwrapped : (c : tie.Start) → wrap (c .args .x .0) ≡ c .args .x .0
 unwrapped c = omega arith
 
-read-bytewise-requires : tie.Need-read-bytewise-requires
-read-bytewise-requires c κs = search needs
-
-enum-known-a : tie.Need-enum-known-a
-enum-known-a c = search needs
-
-enum-known-a-2 : tie.Need-enum-known-a-2
-enum-known-a-2 c = search needs
-
-wrapping-add-u32-requires : tie.Need-wrapping-add-u32-requires
-wrapping-add-u32-requires c κs = search needs
-
-read-bytewise-requires-2 : tie.Need-read-bytewise-requires-2
-read-bytewise-requires-2 c κs = search needs
-
-enum-known-b : tie.Need-enum-known-b
-enum-known-b c = search needs
-
-enum-known-b-2 : tie.Need-enum-known-b-2
-enum-known-b-2 c = search needs
-
-wrapping-add-u32-requires-2 : tie.Need-wrapping-add-u32-requires-2
-wrapping-add-u32-requires-2 c κs = search needs
-
-read-bytewise-requires-3 : tie.Need-read-bytewise-requires-3
-read-bytewise-requires-3 c κs = search needs
-
-enum-known-c : tie.Need-enum-known-c
-enum-known-c c = search needs
-
-enum-known-c-2 : tie.Need-enum-known-c-2
-enum-known-c-2 c = search needs
-
 returns : tie.Need-returns
 unfolding fieldsAt
 returns c =
@@ -77,17 +44,17 @@ pub fields-bytewise-spec : {M : Type 1} → statement M
 fields-bytewise-spec =
     tie.close
     (tie.spec
-    read-bytewise-requires
-    enum-known-a
-    enum-known-a-2
-    wrapping-add-u32-requires
-    read-bytewise-requires-2
-    enum-known-b
-    enum-known-b-2
-    wrapping-add-u32-requires-2
-    read-bytewise-requires-3
-    enum-known-c
-    enum-known-c-2
+    (λ c κs. search needs)
+    (λ c. search needs)
+    (λ c. search needs)
+    (λ c κs. search needs)
+    (λ c κs. search needs)
+    (λ c. search needs)
+    (λ c. search needs)
+    (λ c κs. search needs)
+    (λ c κs. search needs)
+    (λ c. search needs)
+    (λ c. search needs)
     returns
     returns-2
     returns-3

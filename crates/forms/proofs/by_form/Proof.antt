@@ -8,27 +8,9 @@ use Rattle.forms.proofs.Forms.{no-form}
 use Rattle.forms.proofs.by_form.Statement.{statement}
 use Rattle.forms.proofs.by_form.Tie as tie
 
-mul-rx : tie.Need-mul-rx
-mul-rx c = search needs
-
-element-copy-out-rx : tie.Need-element-copy-out-rx
-element-copy-out-rx c = search needs
-
-mul-ry : tie.Need-mul-ry
-mul-ry c = search needs
-
-element-copy-out-ry : tie.Need-element-copy-out-ry
-element-copy-out-ry c = search needs
-
-address-requires : tie.Need-address-requires
-address-requires c κs = search needs
-
 returns : tie.Need-returns
 unfolding keepsRules byForm
 returns c = (simp (c .before .before .before .match .keys1, c .before .before .if1 .taken, c .before .if2 .taken, c .address .ensures), search needs)
-
-span-of-requires : tie.Need-span-of-requires
-span-of-requires c κs = search needs
 
 returns-2 : tie.Need-returns-2
 unfolding keepsRules byForm
@@ -38,30 +20,9 @@ returns-3 : tie.Need-returns-3
 unfolding keepsRules byForm
 returns-3 c = (simp (c .before .before .match .keys3, eq-eqb _ _ (c .before .if6 .taken), c .if7 .taken), search needs)
 
-plus-requires : tie.Need-plus-requires
-plus-requires c κs = search needs
-
 returns-4 : tie.Need-returns-4
 unfolding keepsRules byForm
 returns-4 c = (simp (c .before .before .match .keys4, eq-eqb _ _ (c .before .if8 .taken), ← c .plus .ensures), search needs)
-
-plus-requires-2 : tie.Need-plus-requires-2
-plus-requires-2 c κs = search needs
-
-scaled-requires : tie.Need-scaled-requires
-scaled-requires c κs = search needs
-
-plus-requires-3 : tie.Need-plus-requires-3
-plus-requires-3 c κs = search needs
-
-plus-requires-4 : tie.Need-plus-requires-4
-plus-requires-4 c κs = search needs
-
-read-requires : tie.Need-read-requires
-read-requires c κs = search needs
-
-behind-requires : tie.Need-behind-requires
-behind-requires c κs = search needs
 
 returns-5 : tie.Need-returns-5
 unfolding keepsRules byForm
@@ -69,56 +30,11 @@ returns-5 c =
     let i = c .before .before .before in
     (simp (i .before .match .keys6, eq-eqb _ _ (i .if9 .taken), c .behind .ensures .same, c .before .read .ensures, c .before .before .plus4 .ensures, add-zero), c .behind .ensures .small)
 
-plus-requires-5 : tie.Need-plus-requires-5
-plus-requires-5 c κs = search needs
-
-read-requires-2 : tie.Need-read-requires-2
-read-requires-2 c κs = search needs
-
-scaled-requires-2 : tie.Need-scaled-requires-2
-scaled-requires-2 c κs = search needs
-
-behind-requires-2 : tie.Need-behind-requires-2
-behind-requires-2 c κs = search needs
-
-can-step-requires : tie.Need-can-step-requires
-can-step-requires c κs = search needs
-
-length-requires : tie.Need-length-requires
-length-requires c κs = search needs
-
-minus-requires : tie.Need-minus-requires
-minus-requires c κs = search needs
-
-mul-regs : tie.Need-mul-regs
-mul-regs c = search needs
-
-element-write-regs : tie.Need-element-write-regs
-element-write-regs c = search needs
-
 returns-6 : tie.Need-returns-6
 unfolding keepsRules byForm
 returns-6 c =
     let i = c .before .before in
     (simp (i .before .before .match .keys8, ← i .before .can-step .ensures, i .if10 .taken, c .minus .ensures, c .before .length .ensures, mod-mod), search needs)
-
-can-step-requires-2 : tie.Need-can-step-requires-2
-can-step-requires-2 c κs = search needs
-
-length-requires-2 : tie.Need-length-requires-2
-length-requires-2 c κs = search needs
-
-plus-requires-6 : tie.Need-plus-requires-6
-plus-requires-6 c κs = search needs
-
-mul-regs-2 : tie.Need-mul-regs-2
-mul-regs-2 c = search needs
-
-element-write-regs-2 : tie.Need-element-write-regs-2
-element-write-regs-2 c = search needs
-
-address-requires-2 : tie.Need-address-requires-2
-address-requires-2 c κs = search needs
 
 returns-7 : tie.Need-returns-7
 unfolding keepsRules byForm
@@ -187,40 +103,40 @@ pub by-form-spec : {M : Type 1} → statement M
 by-form-spec =
     tie.close
     (tie.spec
-    mul-rx
-    element-copy-out-rx
-    mul-ry
-    element-copy-out-ry
-    address-requires
+    (λ c. search needs)
+    (λ c. search needs)
+    (λ c. search needs)
+    (λ c. search needs)
+    (λ c κs. search needs)
     returns
-    span-of-requires
+    (λ c κs. search needs)
     returns-2
     returns-3
-    plus-requires
+    (λ c κs. search needs)
     returns-4
-    plus-requires-2
-    scaled-requires
-    plus-requires-3
-    plus-requires-4
-    read-requires
-    behind-requires
+    (λ c κs. search needs)
+    (λ c κs. search needs)
+    (λ c κs. search needs)
+    (λ c κs. search needs)
+    (λ c κs. search needs)
+    (λ c κs. search needs)
     returns-5
-    plus-requires-5
-    read-requires-2
-    scaled-requires-2
-    behind-requires-2
-    can-step-requires
-    length-requires
-    minus-requires
-    mul-regs
-    element-write-regs
+    (λ c κs. search needs)
+    (λ c κs. search needs)
+    (λ c κs. search needs)
+    (λ c κs. search needs)
+    (λ c κs. search needs)
+    (λ c κs. search needs)
+    (λ c κs. search needs)
+    (λ c. search needs)
+    (λ c. search needs)
     returns-6
-    can-step-requires-2
-    length-requires-2
-    plus-requires-6
-    mul-regs-2
-    element-write-regs-2
-    address-requires-2
+    (λ c κs. search needs)
+    (λ c κs. search needs)
+    (λ c κs. search needs)
+    (λ c. search needs)
+    (λ c. search needs)
+    (λ c κs. search needs)
     returns-7
     returns-8
     returns-9

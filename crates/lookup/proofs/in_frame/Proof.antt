@@ -4,15 +4,9 @@ use Rattle.machine.specs.Map.{inFrame}
 use Rattle.lookup.proofs.in_frame.Statement.{statement}
 use Rattle.lookup.proofs.in_frame.Tie as tie
 
-mul-t3 : tie.Need-mul-t3
-mul-t3 c = search needs
-
-add-t5 : tie.Need-add-t5
-add-t5 c = search needs
-
 returns : tie.Need-returns
 unfolding inFrame
 returns c = search needs
 
 pub in-frame-spec : {M : Type 1} → statement M
-in-frame-spec = tie.close (tie.spec mul-t3 add-t5 returns)
+in-frame-spec = tie.close (tie.spec (λ c. search needs) (λ c. search needs) returns)

@@ -5,15 +5,9 @@ use Rattle.machine.specs.Map.{viewBy, unmapped}
 use Rattle.lookup.proofs.look.Statement.{statement}
 use Rattle.lookup.proofs.look.Tie as tie
 
-look-mapped-requires : tie.Need-look-mapped-requires
-look-mapped-requires c κs = search needs
-
 returns : tie.Need-returns
 unfolding viewBy
 returns c = simp (← c .look-mapped .ensures, lt-ltb _ _ (c .before .if1 .taken))
-
-cast-if2 : tie.Need-cast-if2
-cast-if2 c = search needs
 
 real-requires : tie.Need-real-requires
 real-requires c κs = le-ltb _ _ (c .before .before .if1 .left)
@@ -27,4 +21,4 @@ unfolding viewBy unmapped
 returns-3 c = simp (le-ltb _ _ (c .if2 .left), le-ltb _ _ (c .before .before .if1 .left))
 
 pub look-spec : {M : Type 1} → statement M
-look-spec = tie.close (tie.spec look-mapped-requires returns cast-if2 real-requires returns-2 returns-3)
+look-spec = tie.close (tie.spec (λ c κs. search needs) returns (λ c. search needs) real-requires returns-2 returns-3)

@@ -7,47 +7,14 @@ use Rattle.lookup.proofs.look_mapped.Tie as tie
 returns : tie.Need-returns
 returns c = search (needs, mapped-8)
 
-mul-word : tie.Need-mul-word
-mul-word c = search needs
-
-add-word : tie.Need-add-word
-add-word c = search needs
-
-cast-word : tie.Need-cast-word
-cast-word c = search needs
-
-word-requires : tie.Need-word-requires
-word-requires c κs = search needs
-
 returns-2 : tie.Need-returns-2
 returns-2 c = search (needs, mapped-9)
-
-cast-if3 : tie.Need-cast-if3
-cast-if3 c = search needs
 
 returns-3 : tie.Need-returns-3
 returns-3 c = search (needs, mapped-10)
 
-enum-told : tie.Need-enum-told
-enum-told c = search needs
-
-in-frame-requires : tie.Need-in-frame-requires
-in-frame-requires c κs = search needs
-
-enum-told-2 : tie.Need-enum-told-2
-enum-told-2 c = search needs
-
-in-frame-requires-2 : tie.Need-in-frame-requires-2
-in-frame-requires-2 c κs = search needs
-
-enum-told-3 : tie.Need-enum-told-3
-enum-told-3 c = search needs
-
 returns-4 : tie.Need-returns-4
 returns-4 c = search (needs, mapped-11)
-
-in-frame-requires-3 : tie.Need-in-frame-requires-3
-in-frame-requires-3 c κs = search needs
 
 returns-5 : tie.Need-returns-5
 returns-5 c = search (needs, mapped-fetch)
@@ -63,20 +30,20 @@ look-mapped-spec =
     tie.close
     (tie.spec
     returns
-    mul-word
-    add-word
-    cast-word
-    word-requires
+    (λ c. search needs)
+    (λ c. search needs)
+    (λ c. search needs)
+    (λ c κs. search needs)
     returns-2
-    cast-if3
+    (λ c. search needs)
     returns-3
-    enum-told
-    in-frame-requires
-    enum-told-2
-    in-frame-requires-2
-    enum-told-3
+    (λ c. search needs)
+    (λ c κs. search needs)
+    (λ c. search needs)
+    (λ c κs. search needs)
+    (λ c. search needs)
     returns-4
-    in-frame-requires-3
+    (λ c κs. search needs)
     returns-5
     returns-6
     returns-7)

@@ -4,18 +4,6 @@ use Rattle.midesk.specs.Exports.{repliedOf, requestCall}
 use Rattle.midesk.proofs.midesk_request.Statement.{statement}
 use Rattle.midesk.proofs.midesk_request.Tie as tie
 
-unpack-requires : tie.Need-unpack-requires
-unpack-requires c κs = search needs
-
-request-requires : tie.Need-request-requires
-request-requires c κs = search needs
-
-pack-requires : tie.Need-pack-requires
-pack-requires c κs = search needs
-
-number-requires : tie.Need-number-requires
-number-requires c κs = search needs
-
 returns : tie.Need-returns
 unfolding requestCall repliedOf
 returns c =
@@ -24,4 +12,4 @@ returns c =
 
 pub midesk-request-spec : {M : Type 1} → statement M
 midesk-request-spec =
-    tie.close (tie.spec unpack-requires request-requires pack-requires number-requires returns)
+    tie.close (tie.spec (λ c κs. search needs) (λ c κs. search needs) (λ c κs. search needs) (λ c κs. search needs) returns)

@@ -4,21 +4,6 @@ use Rattle.midesk.specs.Exports.{runLeft, runCall}
 use Rattle.midesk.proofs.midesk_run.Statement.{statement}
 use Rattle.midesk.proofs.midesk_run.Tie as tie
 
-unpack-requires : tie.Need-unpack-requires
-unpack-requires c κs = search needs
-
-run-requires : tie.Need-run-requires
-run-requires c κs = search needs
-
-pack-requires : tie.Need-pack-requires
-pack-requires c κs = search needs
-
-number-requires : tie.Need-number-requires
-number-requires c κs = search needs
-
-same-length : tie.Need-same-length
-same-length c = search needs
-
 returns : tie.Need-returns
 unfolding runCall runLeft
 returns c =
@@ -28,4 +13,4 @@ returns c =
 pub midesk-run-spec : {M : Type 1} → statement M
 midesk-run-spec =
     tie.close
-    (tie.spec unpack-requires run-requires pack-requires number-requires same-length returns)
+    (tie.spec (λ c κs. search needs) (λ c κs. search needs) (λ c κs. search needs) (λ c κs. search needs) (λ c. search needs) returns)

@@ -4,21 +4,6 @@ use Rattle.midesk.specs.Exports.{stepLeft, stepCall}
 use Rattle.midesk.proofs.midesk_step.Statement.{statement}
 use Rattle.midesk.proofs.midesk_step.Tie as tie
 
-unpack-requires : tie.Need-unpack-requires
-unpack-requires c κs = search needs
-
-step-requires : tie.Need-step-requires
-step-requires c κs = search needs
-
-pack-requires : tie.Need-pack-requires
-pack-requires c κs = search needs
-
-step-code-requires : tie.Need-step-code-requires
-step-code-requires c κs = search needs
-
-same-length : tie.Need-same-length
-same-length c = search needs
-
 returns : tie.Need-returns
 unfolding stepCall stepLeft
 returns c =
@@ -28,4 +13,4 @@ returns c =
 pub midesk-step-spec : {M : Type 1} → statement M
 midesk-step-spec =
     tie.close
-    (tie.spec unpack-requires step-requires pack-requires step-code-requires same-length returns)
+    (tie.spec (λ c κs. search needs) (λ c κs. search needs) (λ c κs. search needs) (λ c κs. search needs) (λ c. search needs) returns)

@@ -3,38 +3,11 @@ use borrow.Author.Needs.{needs}
 use Rattle.operands.proofs.take.Statement.{statement}
 use Rattle.operands.proofs.take.Tie as tie
 
-enum-known-spot : tie.Need-enum-known-spot
-enum-known-spot c = search needs
-
-take-immediate-requires : tie.Need-take-immediate-requires
-take-immediate-requires c κs = search needs
-
-enum-known-spot-2 : tie.Need-enum-known-spot-2
-enum-known-spot-2 c = search needs
-
-cast-i : tie.Need-cast-i
-cast-i c = search needs
-
-mul-low : tie.Need-mul-low
-mul-low c = search needs
-
 element-copy-out-low : tie.Need-element-copy-out-low
 element-copy-out-low c = rw (c .before .spot2 .given .1) at (c .before .before .before .before .pre .1)
 
-low-requires : tie.Need-low-requires
-low-requires c κs = search needs
-
 take-register-requires : tie.Need-take-register-requires
 take-register-requires c κs = rw (c .before .before .before .spot2 .given .1) at (c .before .before .before .before .before .before .pre .1)
-
-enum-known-spot-3 : tie.Need-enum-known-spot-3
-enum-known-spot-3 c = search needs
-
-take-memory-requires : tie.Need-take-memory-requires
-take-memory-requires c κs = search needs
-
-enum-known-spot-4 : tie.Need-enum-known-spot-4
-enum-known-spot-4 c = search needs
 
 returns : tie.Need-returns
 returns c = (rw (c .before .before .spot .given .1) (c .take-immediate .ensures .0 .same _ _ _), c .take-immediate .ensures .1)
@@ -52,17 +25,17 @@ pub take-spec : {M : Type 1} → statement M
 take-spec =
     tie.close
     (tie.spec
-    enum-known-spot
-    take-immediate-requires
-    enum-known-spot-2
-    cast-i
-    mul-low
+    (λ c. search needs)
+    (λ c κs. search needs)
+    (λ c. search needs)
+    (λ c. search needs)
+    (λ c. search needs)
     element-copy-out-low
-    low-requires
+    (λ c κs. search needs)
     take-register-requires
-    enum-known-spot-3
-    take-memory-requires
-    enum-known-spot-4
+    (λ c. search needs)
+    (λ c κs. search needs)
+    (λ c. search needs)
     returns
     returns-2
     returns-3

@@ -26,42 +26,12 @@ abbrev μ-loop : tie.MeasureT-loop
 loop-holds : tie.Need-loop-holds Inv-loop μ-loop
 loop-holds c = (all-left _ _ _ (c .before .pre .2), search needs)
 
-size-in-requires : tie.Need-size-in-requires Inv-loop μ-loop
-size-in-requires c κs = search needs
-
-role-in-requires : tie.Need-role-in-requires Inv-loop μ-loop
-role-in-requires c κs = search needs
-
-operand-requires : tie.Need-operand-requires Inv-loop μ-loop
-operand-requires c κs = search needs
-
-take-requires : tie.Need-take-requires Inv-loop μ-loop
-take-requires c κs = search needs
-
-enum-known-t : tie.Need-enum-known-t Inv-loop μ-loop
-enum-known-t c = search needs
-
-chosen-requires : tie.Need-chosen-requires Inv-loop μ-loop
-chosen-requires c κs = search needs
-
-chosen-requires-2 : tie.Need-chosen-requires-2 Inv-loop μ-loop
-chosen-requires-2 c κs = search needs
-
-enum-known-t-2 : tie.Need-enum-known-t-2 Inv-loop μ-loop
-enum-known-t-2 c = search needs
-
 returns : tie.Need-returns Inv-loop μ-loop
 returns c =
     let t = c .before .before .before in
     let o = t .before .before in
     let s = o .before .before in
     (next-alarm _ _ _ _ _ (s .before .before .before .loop .inv .0) (s .before .before .loop-test .taken) _ (s .before .size-in .ensures) _ (s .role-in .ensures) (o .operand .result) (o .operand .last .1 .0) (o .operand .ensures .0) _ (t .take .ensures .0) _ _ (c .before .t2 .given .1), search needs)
-
-add-place : tie.Need-add-place Inv-loop μ-loop
-add-place c = search needs
-
-loop-less : tie.Need-loop-less Inv-loop μ-loop
-loop-less c = search needs
 
 loop-again : tie.Need-loop-again Inv-loop μ-loop
 unfolding withTaken
@@ -82,16 +52,16 @@ take-all-spec =
     Inv-loop
     μ-loop
     loop-holds
-    size-in-requires
-    role-in-requires
-    operand-requires
-    take-requires
-    enum-known-t
-    chosen-requires
-    chosen-requires-2
-    enum-known-t-2
+    (λ c κs. search needs)
+    (λ c κs. search needs)
+    (λ c κs. search needs)
+    (λ c κs. search needs)
+    (λ c. search needs)
+    (λ c κs. search needs)
+    (λ c κs. search needs)
+    (λ c. search needs)
     returns
-    add-place
-    loop-less
+    (λ c. search needs)
+    (λ c. search needs)
     loop-again
     returns-2)

@@ -6,34 +6,13 @@ use Rattle.operands.proofs.Taking.{reads-value, reads-update}
 use Rattle.operands.proofs.take_memory.Statement.{statement}
 use Rattle.operands.proofs.take_memory.Tie as tie
 
-written-requires : tie.Need-written-requires
-written-requires c κs = search needs
-
-enum-told : tie.Need-enum-told
-enum-told c = search needs
-
-enum-told-2 : tie.Need-enum-told-2
-enum-told-2 c = search needs
-
 returns : tie.Need-returns
 unfolding takenBy addressIn
 returns c = (record { same = λ place r. rw (c .before .before .written .ensures .0, c .enum-told2 .given .1) }, c .before .before .written .ensures .1)
 
-enum-told-3 : tie.Need-enum-told-3
-enum-told-3 c = search needs
-
 returns-2 : tie.Need-returns-2
 unfolding takenBy targetIn
 returns-2 c = (record { same = λ place r. rw (c .before .before .written .ensures .0, c .enum-told3 .given .1) }, c .before .before .written .ensures .1)
-
-enum-told-4 : tie.Need-enum-told-4
-enum-told-4 c = search needs
-
-read-requires : tie.Need-read-requires
-read-requires c κs = search needs
-
-with-value-requires : tie.Need-with-value-requires
-with-value-requires c κs = search needs
 
 returns-3 : tie.Need-returns-3
 returns-3 c =
@@ -50,13 +29,13 @@ pub take-memory-spec : {M : Type 1} → statement M
 take-memory-spec =
     tie.close
     (tie.spec
-    written-requires
-    enum-told
-    enum-told-2
+    (λ c κs. search needs)
+    (λ c. search needs)
+    (λ c. search needs)
     returns
-    enum-told-3
+    (λ c. search needs)
     returns-2
-    enum-told-4
-    read-requires
-    with-value-requires
+    (λ c. search needs)
+    (λ c κs. search needs)
+    (λ c κs. search needs)
     returns-3)

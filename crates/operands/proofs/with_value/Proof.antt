@@ -3,12 +3,6 @@ use borrow.Author.Needs.{needs}
 use Rattle.operands.proofs.with_value.Statement.{statement}
 use Rattle.operands.proofs.with_value.Tie as tie
 
-enum-known-v : tie.Need-enum-known-v
-enum-known-v c = search needs
-
-enum-known-v-2 : tie.Need-enum-known-v-2
-enum-known-v-2 c = search needs
-
 returns : tie.Need-returns
 returns c = (simp (c .before .v .given .1), search needs)
 
@@ -16,4 +10,4 @@ returns-2 : tie.Need-returns-2
 returns-2 c = (simp (c .before .v2 .given .1), search needs)
 
 pub with-value-spec : {M : Type 1} → statement M
-with-value-spec = tie.close (tie.spec enum-known-v enum-known-v-2 returns returns-2)
+with-value-spec = tie.close (tie.spec (λ c. search needs) (λ c. search needs) returns returns-2)

@@ -10,20 +10,8 @@ use Rattle.reads.proofs.OnePage.{read-page}
 use Rattle.reads.proofs.read.Statement.{statement}
 use Rattle.reads.proofs.read.Tie as tie
 
-length-requires : tie.Need-length-requires
-length-requires c κs = search needs
-
 add-if1 : tie.Need-add-if1
 add-if1 c = omega (arith, length-bounds (c .before .before .before .args .size))
-
-look-requires : tie.Need-look-requires
-look-requires c κs = search needs
-
-enum-known-s : tie.Need-enum-known-s
-enum-known-s c = search needs
-
-cast-at : tie.Need-cast-at
-cast-at c = search needs
 
 value-at-requires : tie.Need-value-at-requires
 value-at-requires c κs =
@@ -37,28 +25,16 @@ returns c =
     let found = look-found (c .before .before .before .s .given .1) (looked .look .ensures) (looked .before .before .before .before .before .pre) (omega arith) in
     ap got (c .value-at .ensures) ∙ sym (read-page found _ (omega arith))
 
-enum-known-s-2 : tie.Need-enum-known-s-2
-enum-known-s-2 c = search needs
-
 returns-2 : tie.Need-returns-2
 returns-2 c =
     let looked = c .before .before .before in
     let stopped = look-alarm (c .before .s2 .given .1) (looked .look .ensures) (omega arith) in
     sym (read-alarm stopped _ _ (omega (arith, length-bounds (looked .before .before .before .before .before .args .size))))
 
-cast-read-bytewise : tie.Need-cast-read-bytewise
-cast-read-bytewise c = search needs
-
 read-bytewise-requires : tie.Need-read-bytewise-requires
 read-bytewise-requires c κs =
     let start = c .before .before .before .before in
     (start .pre, omega (arith, length-bounds (start .args .size)))
-
-enum-known-w : tie.Need-enum-known-w
-enum-known-w c = search needs
-
-enum-known-w-2 : tie.Need-enum-known-w-2
-enum-known-w-2 c = search needs
 
 returns-3 : tie.Need-returns-3
 returns-3 c = rw (← c .before .before .before .before .before .before .length .ensures) (rw (c .before .w .given .1) at (c .before .before .before .read-bytewise .ensures .0))
@@ -70,18 +46,18 @@ pub read-spec : {M : Type 1} → statement M
 read-spec =
     tie.close
     (tie.spec
-    length-requires
+    (λ c κs. search needs)
     add-if1
-    look-requires
-    enum-known-s
-    cast-at
+    (λ c κs. search needs)
+    (λ c. search needs)
+    (λ c. search needs)
     value-at-requires
     returns
-    enum-known-s-2
+    (λ c. search needs)
     returns-2
-    cast-read-bytewise
+    (λ c. search needs)
     read-bytewise-requires
-    enum-known-w
-    enum-known-w-2
+    (λ c. search needs)
+    (λ c. search needs)
     returns-3
     returns-4)

@@ -20,18 +20,6 @@ abbrev μ-loop : tie.MeasureT-loop
 loop-holds : tie.Need-loop-holds Inv-loop μ-loop
 loop-holds c = (omega arith, omega arith, read-all _ _ _ _)
 
-cast-wrapping-add-u32 : tie.Need-cast-wrapping-add-u32 Inv-loop μ-loop
-cast-wrapping-add-u32 c = search needs
-
-wrapping-add-u32-requires : tie.Need-wrapping-add-u32-requires Inv-loop μ-loop
-wrapping-add-u32-requires c κs = search needs
-
-look-requires : tie.Need-look-requires Inv-loop μ-loop
-look-requires c κs = search needs
-
-enum-known-s : tie.Need-enum-known-s Inv-loop μ-loop
-enum-known-s c = search needs
-
 cast-at : tie.Need-cast-at Inv-loop μ-loop
 cast-at c = omega (arith, look-inside _ _ _ _ _ _ _ (c .before .before .s .given .1) (c .before .before .before .before .look .ensures))
 
@@ -43,16 +31,10 @@ mul-acc c =
 shared-slice-read-wide : tie.Need-shared-slice-read-wide Inv-loop μ-loop
 shared-slice-read-wide c = look-inside _ _ _ _ _ _ _ (c .before .before .before .s .given .1) (c .before .before .before .before .before .look .ensures)
 
-wide-requires : tie.Need-wide-requires Inv-loop μ-loop
-wide-requires c κs = search needs
-
 add-acc : tie.Need-add-acc Inv-loop μ-loop
 add-acc c =
     let turn = c .before .before .before .before .before .before .before .before .before .loop in
     omega (arith, three-bytes (turn .i) (turn .acc) (omega arith) (turn .inv .1))
-
-enum-known-s-2 : tie.Need-enum-known-s-2 Inv-loop μ-loop
-enum-known-s-2 c = search needs
 
 returns : tie.Need-returns Inv-loop μ-loop
 returns c =
@@ -60,12 +42,6 @@ returns c =
     let test = looked .before .before in
     let stopped = look-alarm (c .before .s2 .given .1) (looked .look .ensures) (omega arith) in
     (sym (test .before .loop .inv .2 ∙ read-stops _ _ _ _ _ _ _ (test .loop-test .taken) (looked .before .wrapping-add-u32 .ensures) _ _ (stopped .miss)), tt)
-
-add-i : tie.Need-add-i Inv-loop μ-loop
-add-i c = search needs
-
-loop-less : tie.Need-loop-less Inv-loop μ-loop
-loop-less c = search needs
 
 loop-again : tie.Need-loop-again Inv-loop μ-loop
 loop-again c =
@@ -91,18 +67,18 @@ read-bytewise-spec =
     Inv-loop
     μ-loop
     loop-holds
-    cast-wrapping-add-u32
-    wrapping-add-u32-requires
-    look-requires
-    enum-known-s
+    (λ c. search needs)
+    (λ c κs. search needs)
+    (λ c κs. search needs)
+    (λ c. search needs)
     cast-at
     mul-acc
     shared-slice-read-wide
-    wide-requires
+    (λ c κs. search needs)
     add-acc
-    enum-known-s-2
+    (λ c. search needs)
     returns
-    add-i
-    loop-less
+    (λ c. search needs)
+    (λ c. search needs)
     loop-again
     returns-2)

@@ -15,35 +15,14 @@ use Rattle.reads.proofs.read_word.Tie as tie
 found : (c : tie.After-s) → let a = c .before .before .before .before .before .before .args in Finds (a .status) (a .map) (a .mem .now) (a .x) Read (c .s .given .0 .0)
 found c = let looked = c .before .before in look-found (c .s .given .1) (looked .look .ensures) (looked .before .before .before .before .pre) (omega arith)
 
-look-requires : tie.Need-look-requires
-look-requires c κs = search needs
-
-enum-known-s : tie.Need-enum-known-s
-enum-known-s c = search needs
-
-cast-at : tie.Need-cast-at
-cast-at c = search needs
-
 word-requires : tie.Need-word-requires
 word-requires c κs = page-inside (found (c .before .before)) 4 (omega arith) (omega arith)
 
 returns : tie.Need-returns
 returns c = ap got (c .word .ensures ∙ four-byte-value _ _) ∙ sym (read-page (found (c .before .before .before)) 4 (omega arith))
 
-enum-known-s-2 : tie.Need-enum-known-s-2
-enum-known-s-2 c = search needs
-
 returns-2 : tie.Need-returns-2
 returns-2 c = sym (read-alarm (look-alarm (c .before .s2 .given .1) (c .before .before .before .look .ensures) (omega arith)) 4 0 (omega arith))
-
-read-requires : tie.Need-read-requires
-read-requires c κs = search needs
-
-enum-known-w : tie.Need-enum-known-w
-enum-known-w c = search needs
-
-enum-known-w-2 : tie.Need-enum-known-w-2
-enum-known-w-2 c = search needs
 
 returns-3 : tie.Need-returns-3
 returns-3 c = rw (c .before .w .given .1) at (c .before .before .before .read .ensures)
@@ -55,15 +34,15 @@ pub read-word-spec : {M : Type 1} → statement M
 read-word-spec =
     tie.close
     (tie.spec
-    look-requires
-    enum-known-s
-    cast-at
+    (λ c κs. search needs)
+    (λ c. search needs)
+    (λ c. search needs)
     word-requires
     returns
-    enum-known-s-2
+    (λ c. search needs)
     returns-2
-    read-requires
-    enum-known-w
-    enum-known-w-2
+    (λ c κs. search needs)
+    (λ c. search needs)
+    (λ c. search needs)
     returns-3
     returns-4)

@@ -6,41 +6,11 @@ use Rattle.results.proofs.Ends.{stored-end}
 use Rattle.results.proofs.put.Statement.{statement}
 use Rattle.results.proofs.put.Tie as tie
 
-with-flags-requires : tie.Need-with-flags-requires
-with-flags-requires c κs = search needs
-
-enum-told : tie.Need-enum-told
-enum-told c = search needs
-
-enum-known-target : tie.Need-enum-known-target
-enum-known-target c = search needs
-
-cast-k : tie.Need-cast-k
-cast-k c = search needs
-
-mul-kept-rest : tie.Need-mul-kept-rest
-mul-kept-rest c = search needs
-
 element-copy-out-kept-rest : tie.Need-element-copy-out-kept-rest
 element-copy-out-kept-rest c = rw (c .before .target .given .1) at (c .before .before .before .before .before .pre .1)
 
-kept-rest-requires : tie.Need-kept-rest-requires
-kept-rest-requires c κs = search needs
-
-mul-regs : tie.Need-mul-regs
-mul-regs c = search needs
-
 element-write-regs : tie.Need-element-write-regs
 element-write-regs c = rw (c .before .before .before .target .given .1) at (c .before .before .before .before .before .before .before .pre .1)
-
-enum-known-target-2 : tie.Need-enum-known-target-2
-enum-known-target-2 c = search needs
-
-store-requires : tie.Need-store-requires
-store-requires c κs = search needs
-
-ended-requires : tie.Need-ended-requires
-ended-requires c κs = search needs
 
 returns : tie.Need-returns
 unfolding stored located commit
@@ -49,9 +19,6 @@ returns c = rw (c .enum-told .given .1, c .before .before .with-flags .ensures)
 returns-2 : tie.Need-returns-2
 unfolding stored located commit
 returns-2 c = rw (c .before .before .before .target .given .1, c .kept-rest .ensures, c .before .before .before .before .before .with-flags .ensures)
-
-same-length : tie.Need-same-length
-same-length c = search needs
 
 returns-3 : tie.Need-returns-3
 unfolding stored
@@ -64,19 +31,19 @@ pub put-spec : {M : Type 1} → statement M
 put-spec =
     tie.close
     (tie.spec
-    with-flags-requires
-    enum-told
-    enum-known-target
-    cast-k
-    mul-kept-rest
+    (λ c κs. search needs)
+    (λ c. search needs)
+    (λ c. search needs)
+    (λ c. search needs)
+    (λ c. search needs)
     element-copy-out-kept-rest
-    kept-rest-requires
-    mul-regs
+    (λ c κs. search needs)
+    (λ c. search needs)
     element-write-regs
-    enum-known-target-2
-    store-requires
-    ended-requires
+    (λ c. search needs)
+    (λ c κs. search needs)
+    (λ c κs. search needs)
     returns
     returns-2
-    same-length
+    (λ c. search needs)
     returns-3)

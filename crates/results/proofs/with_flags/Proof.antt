@@ -4,15 +4,9 @@ use Rattle.machine.specs.State.{withFlags}
 use Rattle.results.proofs.with_flags.Statement.{statement}
 use Rattle.results.proofs.with_flags.Tie as tie
 
-mul-result : tie.Need-mul-result
-mul-result c = search needs
-
-add-result : tie.Need-add-result
-add-result c = search needs
-
 returns : tie.Need-returns
 unfolding withFlags
 returns c = search needs
 
 pub with-flags-spec : {M : Type 1} → statement M
-with-flags-spec = tie.close (tie.spec mul-result add-result returns)
+with-flags-spec = tie.close (tie.spec (λ c. search needs) (λ c. search needs) returns)

@@ -19,20 +19,8 @@ Inv-loop mem₀ n desk₀ last₀ regs₀ status₀ count₀ table mem desk last
 abbrev μ-loop : tie.MeasureT-loop
 μ-loop mem₀ n desk₀ last₀ regs₀ status₀ count₀ table mem desk last regs status count = n - count
 
-table-requires : tie.Need-table-requires Inv-loop μ-loop
-table-requires c κs = search needs
-
 loop-holds : tie.Need-loop-holds Inv-loop μ-loop
 loop-holds c = (search needs, start _ _ _ _ (c .before .before .before .pre))
-
-add-count : tie.Need-add-count Inv-loop μ-loop
-add-count c = search needs
-
-interrupt-requires : tie.Need-interrupt-requires Inv-loop μ-loop
-interrupt-requires c κs = search needs
-
-running-requires : tie.Need-running-requires Inv-loop μ-loop
-running-requires c κs = search needs
 
 enter-level-requires : tie.Need-enter-level-requires Inv-loop μ-loop
 enter-level-requires c κs =
@@ -44,12 +32,6 @@ exec-requires c κs =
     let l = c .before .before .before .before .before .before .before .loop in
     (map-fits (going (l .desk) (l .regs) (l .status)) _ _ refl (l .inv .1 .passes), c .before .before .before .before .before .before .before .before .table .ensures)
 
-enum-known-out : tie.Need-enum-known-out Inv-loop μ-loop
-enum-known-out c = search needs
-
-loop-less : tie.Need-loop-less Inv-loop μ-loop
-loop-less c = search needs
-
 loop-again : tie.Need-loop-again Inv-loop μ-loop
 loop-again c =
     let x = c .before .before .before .before .before in
@@ -58,19 +40,10 @@ loop-again c =
     let none : interruptOf (l .status) (l .desk .pending) ≡ 0 = omega (arith, i .interrupt .ensures .0) in
     (search needs, after-quiet (l .inv .1) (x .exec .result) _ _ none (x .exec .ensures) (i .before .loop-test .taken) refl _ (c .before .out .given .1) (x .exec .kept .0))
 
-running-requires-2 : tie.Need-running-requires-2 Inv-loop μ-loop
-running-requires-2 c κs = search needs
-
 conclude-requires : tie.Need-conclude-requires Inv-loop μ-loop
 conclude-requires c κs =
     let x = c .before .before .before .before .before in
     rw (c .before .running2 .ensures) (blocks _ _ _ (x .exec .kept .0) (x .before .before .before .before .before .before .before .before .loop .inv .1 .passes))
-
-enum-told : tie.Need-enum-told Inv-loop μ-loop
-enum-told c = search needs
-
-loop-less-2 : tie.Need-loop-less-2 Inv-loop μ-loop
-loop-less-2 c = search needs
 
 -- after an interrupt, or a command that did not end quietly
 turn : (c : tie.Joined1 Inv-loop μ-loop)
@@ -91,12 +64,6 @@ turn c =
 loop-again-2 : tie.Need-loop-again-2 Inv-loop μ-loop
 loop-again-2 c = (search needs, go-on (turn (c .before .before .before)) (ap isRunning (c .enum-told .given .1)))
 
-enum-told-2 : tie.Need-enum-told-2 Inv-loop μ-loop
-enum-told-2 c = search needs
-
-made-requires : tie.Need-made-requires Inv-loop μ-loop
-made-requires c κs = search needs
-
 same-length : tie.Need-same-length Inv-loop μ-loop
 same-length c = turn (c .before .before .before .before) .same
 
@@ -104,12 +71,6 @@ returns : tie.Need-returns Inv-loop μ-loop
 returns c =
     let t = turn (c .before .before .before .before) in
     rw (c .made .ensures) (stopped t (ap isRunning (c .before .enum-told2 .given .1)), λ h. t .one (omega (arith, h)))
-
-running-requires-3 : tie.Need-running-requires-3 Inv-loop μ-loop
-running-requires-3 c κs = search needs
-
-made-requires-2 : tie.Need-made-requires-2 Inv-loop μ-loop
-made-requires-2 c κs = search needs
 
 same-length-2 : tie.Need-same-length-2 Inv-loop μ-loop
 same-length-2 c = c .before .before .before .loop .inv .1 .same
@@ -126,26 +87,26 @@ steps-spec =
     (tie.spec
     Inv-loop
     μ-loop
-    table-requires
+    (λ c κs. search needs)
     loop-holds
-    add-count
-    interrupt-requires
-    running-requires
+    (λ c. search needs)
+    (λ c κs. search needs)
+    (λ c κs. search needs)
     enter-level-requires
     exec-requires
-    enum-known-out
-    loop-less
+    (λ c. search needs)
+    (λ c. search needs)
     loop-again
-    running-requires-2
+    (λ c κs. search needs)
     conclude-requires
-    enum-told
-    loop-less-2
+    (λ c. search needs)
+    (λ c. search needs)
     loop-again-2
-    enum-told-2
-    made-requires
+    (λ c. search needs)
+    (λ c κs. search needs)
     same-length
     returns
-    running-requires-3
-    made-requires-2
+    (λ c κs. search needs)
+    (λ c κs. search needs)
     same-length-2
     returns-2)

@@ -7,30 +7,6 @@ use Rattle.results.proofs.Ends.{stored-end, same-status}
 use Rattle.stack.proofs.call.Statement.{statement}
 use Rattle.stack.proofs.call.Tie as tie
 
-element-copy-out-minus : tie.Need-element-copy-out-minus
-element-copy-out-minus c = search needs
-
-minus-requires : tie.Need-minus-requires
-minus-requires c κs = search needs
-
-element-copy-out-store : tie.Need-element-copy-out-store
-element-copy-out-store c = search needs
-
-store-requires : tie.Need-store-requires
-store-requires c κs = search needs
-
-element-write-regs : tie.Need-element-write-regs
-element-write-regs c = search needs
-
-element-write-regs-2 : tie.Need-element-write-regs-2
-element-write-regs-2 c = search needs
-
-ended-requires : tie.Need-ended-requires
-ended-requires c κs = search needs
-
-same-length : tie.Need-same-length
-same-length c = search needs
-
 returns : tie.Need-returns
 unfolding called
 returns c =
@@ -44,12 +20,12 @@ pub call-spec : {M : Type 1} → statement M
 call-spec =
     tie.close
     (tie.spec
-    element-copy-out-minus
-    minus-requires
-    element-copy-out-store
-    store-requires
-    element-write-regs
-    element-write-regs-2
-    ended-requires
-    same-length
+    (λ c. search needs)
+    (λ c κs. search needs)
+    (λ c. search needs)
+    (λ c κs. search needs)
+    (λ c. search needs)
+    (λ c. search needs)
+    (λ c κs. search needs)
+    (λ c. search needs)
     returns)

@@ -19,44 +19,11 @@ abbrev μ-loop : tie.MeasureT-loop
 loop-holds : tie.Need-loop-holds Inv-loop μ-loop
 loop-holds c = (omega arith, refl)
 
-element-copy-out-t14 : tie.Need-element-copy-out-t14 Inv-loop μ-loop
-element-copy-out-t14 c = search needs
-
-read-requires : tie.Need-read-requires Inv-loop μ-loop
-read-requires c κs = search needs
-
-enum-known-w : tie.Need-enum-known-w Inv-loop μ-loop
-enum-known-w c = search needs
-
-mul-regs : tie.Need-mul-regs Inv-loop μ-loop
-mul-regs c = search needs
-
-element-write-regs : tie.Need-element-write-regs Inv-loop μ-loop
-element-write-regs c = search needs
-
-element-copy-out-plus : tie.Need-element-copy-out-plus Inv-loop μ-loop
-element-copy-out-plus c = search needs
-
-plus-requires : tie.Need-plus-requires Inv-loop μ-loop
-plus-requires c κs = search needs
-
-element-write-regs-2 : tie.Need-element-write-regs-2 Inv-loop μ-loop
-element-write-regs-2 c = search needs
-
-enum-known-w-2 : tie.Need-enum-known-w-2 Inv-loop μ-loop
-enum-known-w-2 c = search needs
-
 returns : tie.Need-returns Inv-loop μ-loop
 returns c =
     let a = c .before .before .before .before .before .before .before .before .args in
     let turn = c .before .before .before .before .before .before .loop in
     rw (← turn .inv .1, popped-alarm (viewBy (a .status) (a .map) (a .mem .now)) 15 (turn .i) (turn .regs) (c .before .before .before .before .before .loop-test .taken) _ _ (rw (c .before .w2 .given .1) at (c .before .before .before .read .ensures)))
-
-add-i : tie.Need-add-i Inv-loop μ-loop
-add-i c = search needs
-
-loop-less : tie.Need-loop-less Inv-loop μ-loop
-loop-less c = search needs
 
 loop-again : tie.Need-loop-again Inv-loop μ-loop
 loop-again c =
@@ -81,17 +48,17 @@ pop-spec =
     Inv-loop
     μ-loop
     loop-holds
-    element-copy-out-t14
-    read-requires
-    enum-known-w
-    mul-regs
-    element-write-regs
-    element-copy-out-plus
-    plus-requires
-    element-write-regs-2
-    enum-known-w-2
+    (λ c. search needs)
+    (λ c κs. search needs)
+    (λ c. search needs)
+    (λ c. search needs)
+    (λ c. search needs)
+    (λ c. search needs)
+    (λ c κs. search needs)
+    (λ c. search needs)
+    (λ c. search needs)
     returns
-    add-i
-    loop-less
+    (λ c. search needs)
+    (λ c. search needs)
     loop-again
     returns-2)

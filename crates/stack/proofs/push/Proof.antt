@@ -7,30 +7,6 @@ use Rattle.stack.proofs.Stack.{pushed-all, row-bytes}
 use Rattle.stack.proofs.push.Statement.{statement}
 use Rattle.stack.proofs.push.Tie as tie
 
-element-copy-out-sp : tie.Need-element-copy-out-sp
-element-copy-out-sp c = search needs
-
-minus-requires : tie.Need-minus-requires
-minus-requires c κs = search needs
-
-stacked-requires : tie.Need-stacked-requires
-stacked-requires c κs = search needs
-
-minus-requires-2 : tie.Need-minus-requires-2
-minus-requires-2 c κs = search needs
-
-store-bytes-requires : tie.Need-store-bytes-requires
-store-bytes-requires c κs = search needs
-
-element-write-regs : tie.Need-element-write-regs
-element-write-regs c = search needs
-
-ended-requires : tie.Need-ended-requires
-ended-requires c κs = search needs
-
-same-length : tie.Need-same-length
-same-length c = search needs
-
 returns : tie.Need-returns
 returns c =
     let a = c .before .before .before .before .before .before .before .before .before .before .before .before .args in
@@ -43,12 +19,12 @@ pub push-spec : {M : Type 1} → statement M
 push-spec =
     tie.close
     (tie.spec
-    element-copy-out-sp
-    minus-requires
-    stacked-requires
-    minus-requires-2
-    store-bytes-requires
-    element-write-regs
-    ended-requires
-    same-length
+    (λ c. search needs)
+    (λ c κs. search needs)
+    (λ c κs. search needs)
+    (λ c κs. search needs)
+    (λ c κs. search needs)
+    (λ c. search needs)
+    (λ c κs. search needs)
+    (λ c. search needs)
     returns)

@@ -30,30 +30,6 @@ abbrev μ-loop2 : tie.MeasureT-loop2
 loop-holds : tie.Need-loop-holds Inv-loop μ-loop Inv-loop2 μ-loop2
 loop-holds c = (omega arith, λ k h. absurd (omega arith), refl)
 
-cast-wrapping-add-u32 : tie.Need-cast-wrapping-add-u32 Inv-loop μ-loop Inv-loop2 μ-loop2
-cast-wrapping-add-u32 c = search needs
-
-wrapping-add-u32-requires : tie.Need-wrapping-add-u32-requires Inv-loop μ-loop Inv-loop2 μ-loop2
-wrapping-add-u32-requires c κs = search needs
-
-look-requires : tie.Need-look-requires Inv-loop μ-loop Inv-loop2 μ-loop2
-look-requires c κs = search needs
-
-enum-known-s : tie.Need-enum-known-s Inv-loop μ-loop Inv-loop2 μ-loop2
-enum-known-s c = search needs
-
-mul-places : tie.Need-mul-places Inv-loop μ-loop Inv-loop2 μ-loop2
-mul-places c = search needs
-
-array-set-from-places : tie.Need-array-set-from-places Inv-loop μ-loop Inv-loop2 μ-loop2
-array-set-from-places c = search needs
-
-enum-known-s-2 : tie.Need-enum-known-s-2 Inv-loop μ-loop Inv-loop2 μ-loop2
-enum-known-s-2 c = search needs
-
-same-length : tie.Need-same-length Inv-loop μ-loop Inv-loop2 μ-loop2
-same-length c = search needs
-
 returns : tie.Need-returns Inv-loop μ-loop Inv-loop2 μ-loop2
 returns c =
     let looked = c .before .before .before in
@@ -62,12 +38,6 @@ returns c =
     let a = test .before .before .before .before .args in
     let stopped = look-alarm (c .before .s2 .given .1) (looked .look .ensures) (omega arith) in
     rw (one-stopped (viewBy (a .status) (a .map) (a .mem .now)) (a .mem .now) (a .x .0) (turn .places) (a .bytes .now) (a .n) (turn .i) _ _ _ (test .loop-test .taken) (omega arith) (turn .inv .1) (looked .before .before .wrapping-add-u32 .ensures) (stopped .miss))
-
-add-i : tie.Need-add-i Inv-loop μ-loop Inv-loop2 μ-loop2
-add-i c = search needs
-
-loop-less : tie.Need-loop-less Inv-loop μ-loop Inv-loop2 μ-loop2
-loop-less c = search needs
 
 loop-again : tie.Need-loop-again Inv-loop μ-loop Inv-loop2 μ-loop2
 loop-again c =
@@ -84,30 +54,15 @@ loop-again c =
 loop2-holds : tie.Need-loop2-holds Inv-loop μ-loop Inv-loop2 μ-loop2
 loop2-holds c = (omega arith, refl, rw sub-zero)
 
-mul-place : tie.Need-mul-place Inv-loop μ-loop Inv-loop2 μ-loop2
-mul-place c = search needs
-
-array-copy-out-place : tie.Need-array-copy-out-place Inv-loop μ-loop Inv-loop2 μ-loop2
-array-copy-out-place c = search needs
-
 cast-at : tie.Need-cast-at Inv-loop μ-loop Inv-loop2 μ-loop2
 cast-at c =
     let second = c .before .before .before in
     omega (arith, found-inside _ _ _ _ _ _ (second .before .before .loop .inv .1 (second .loop2 .j) (omega arith)))
 
-shared-slice-read-mem : tie.Need-shared-slice-read-mem Inv-loop μ-loop Inv-loop2 μ-loop2
-shared-slice-read-mem c = search needs
-
 slice-write-mem : tie.Need-slice-write-mem Inv-loop μ-loop Inv-loop2 μ-loop2
 slice-write-mem c =
     let second = c .before .before .before .before in
     omega (arith, found-inside _ _ _ _ _ _ (second .before .before .loop .inv .1 (second .loop2 .j) (omega arith)))
-
-add-j : tie.Need-add-j Inv-loop μ-loop Inv-loop2 μ-loop2
-add-j c = search needs
-
-loop2-less : tie.Need-loop2-less Inv-loop μ-loop Inv-loop2 μ-loop2
-loop2-less c = search needs
 
 loop2-again : tie.Need-loop2-again Inv-loop μ-loop Inv-loop2 μ-loop2
 loop2-again c =
@@ -116,9 +71,6 @@ loop2-again c =
       simp length-set (b .inv .1),
       sym (one-written _ _ _ _ (b .j) (c .before .before .before .loop2-test .taken)) ∙ b .inv .2,
     )
-
-same-length-2 : tie.Need-same-length-2 Inv-loop μ-loop Inv-loop2 μ-loop2
-same-length-2 c = search needs
 
 returns-2 : tie.Need-returns-2 Inv-loop μ-loop Inv-loop2 μ-loop2
 returns-2 c =
@@ -136,26 +88,26 @@ store-bytes-spec =
     Inv-loop2
     μ-loop2
     loop-holds
-    cast-wrapping-add-u32
-    wrapping-add-u32-requires
-    look-requires
-    enum-known-s
-    mul-places
-    array-set-from-places
-    enum-known-s-2
-    same-length
+    (λ c. search needs)
+    (λ c κs. search needs)
+    (λ c κs. search needs)
+    (λ c. search needs)
+    (λ c. search needs)
+    (λ c. search needs)
+    (λ c. search needs)
+    (λ c. search needs)
     returns
-    add-i
-    loop-less
+    (λ c. search needs)
+    (λ c. search needs)
     loop-again
     loop2-holds
-    mul-place
-    array-copy-out-place
+    (λ c. search needs)
+    (λ c. search needs)
     cast-at
-    shared-slice-read-mem
+    (λ c. search needs)
     slice-write-mem
-    add-j
-    loop2-less
+    (λ c. search needs)
+    (λ c. search needs)
     loop2-again
-    same-length-2
+    (λ c. search needs)
     returns-2)

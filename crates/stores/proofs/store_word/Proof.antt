@@ -8,22 +8,10 @@ use Rattle.lookup.proofs.Lookups.{look-found, look-alarm}
 use Rattle.stores.proofs.store_word.Statement.{statement}
 use Rattle.stores.proofs.store_word.Tie as tie
 
-look-requires : tie.Need-look-requires
-look-requires c κs = search needs
-
-enum-known-s : tie.Need-enum-known-s
-enum-known-s c = search needs
-
-cast-at : tie.Need-cast-at
-cast-at c = search needs
-
 value-to-requires : tie.Need-value-to-requires
 value-to-requires c κs =
     let looked = c .before .before .before .before .before in
     page-inside (look-found (c .before .before .before .s .given .1) (looked .look .ensures) (looked .before .before .before .before .before .pre) (omega arith)) 4 (omega arith) (omega arith)
-
-same-length : tie.Need-same-length
-same-length c = search needs
 
 returns : tie.Need-returns
 returns c =
@@ -33,12 +21,6 @@ returns c =
     let long = bytes-length 4 (start .args .value) in
     rw (located-page found (bytesOf 4 (start .args .value)) (omega arith), c .before .before .value-to .ensures)
 
-enum-known-s-2 : tie.Need-enum-known-s-2
-enum-known-s-2 c = search needs
-
-same-length-2 : tie.Need-same-length-2
-same-length-2 c = search needs
-
 returns-2 : tie.Need-returns-2
 returns-2 c =
     let looked = c .before .before .before in
@@ -47,12 +29,6 @@ returns-2 c =
     let long = bytes-length 4 (start .args .value) in
     rw (located-alarm stopped (bytesOf 4 (start .args .value)) (omega arith))
 
-store-requires : tie.Need-store-requires
-store-requires c κs = search needs
-
-same-length-3 : tie.Need-same-length-3
-same-length-3 c = search needs
-
 returns-3 : tie.Need-returns-3
 returns-3 c = c .before .before .store .ensures
 
@@ -60,15 +36,15 @@ pub store-word-spec : {M : Type 1} → statement M
 store-word-spec =
     tie.close
     (tie.spec
-    look-requires
-    enum-known-s
-    cast-at
+    (λ c κs. search needs)
+    (λ c. search needs)
+    (λ c. search needs)
     value-to-requires
-    same-length
+    (λ c. search needs)
     returns
-    enum-known-s-2
-    same-length-2
+    (λ c. search needs)
+    (λ c. search needs)
     returns-2
-    store-requires
-    same-length-3
+    (λ c κs. search needs)
+    (λ c. search needs)
     returns-3)

@@ -6,41 +6,14 @@ use Rattle.words.proofs.Values.{one-byte-value, two-byte-value, four-by
 use Rattle.words.proofs.value_at.Statement.{statement}
 use Rattle.words.proofs.value_at.Tie as tie
 
-enum-told : tie.Need-enum-told
-enum-told c = search needs
-
 shared-slice-read-wide : tie.Need-shared-slice-read-wide
 shared-slice-read-wide c = omega (arith, rw (c .before .enum-told .given .1) at (c .before .before .before .before .pre))
-
-wide-requires : tie.Need-wide-requires
-wide-requires c κs = search needs
-
-enum-told-2 : tie.Need-enum-told-2
-enum-told-2 c = search needs
 
 shared-slice-read-wide-2 : tie.Need-shared-slice-read-wide-2
 shared-slice-read-wide-2 c = omega (arith, rw (c .before .enum-told2 .given .1) at (c .before .before .before .before .pre))
 
-wide-requires-2 : tie.Need-wide-requires-2
-wide-requires-2 c κs = search needs
-
-mul-result : tie.Need-mul-result
-mul-result c = search needs
-
-add-wide : tie.Need-add-wide
-add-wide c = search needs
-
 shared-slice-read-wide-3 : tie.Need-shared-slice-read-wide-3
 shared-slice-read-wide-3 c = omega (arith, rw (c .before .before .before .enum-told2 .given .1) at (c .before .before .before .before .before .before .pre))
-
-wide-requires-3 : tie.Need-wide-requires-3
-wide-requires-3 c κs = search needs
-
-add-result : tie.Need-add-result
-add-result c = search needs
-
-enum-told-3 : tie.Need-enum-told-3
-enum-told-3 c = search needs
 
 word-requires : tie.Need-word-requires
 word-requires c κs = omega (arith, rw (c .enum-told3 .given .1) at (c .before .before .before .pre))
@@ -58,18 +31,18 @@ pub value-at-spec : {M : Type 1} → statement M
 value-at-spec =
     tie.close
     (tie.spec
-    enum-told
+    (λ c. search needs)
     shared-slice-read-wide
-    wide-requires
-    enum-told-2
+    (λ c κs. search needs)
+    (λ c. search needs)
     shared-slice-read-wide-2
-    wide-requires-2
-    mul-result
-    add-wide
+    (λ c κs. search needs)
+    (λ c. search needs)
+    (λ c. search needs)
     shared-slice-read-wide-3
-    wide-requires-3
-    add-result
-    enum-told-3
+    (λ c κs. search needs)
+    (λ c. search needs)
+    (λ c. search needs)
     word-requires
     returns
     returns-2
