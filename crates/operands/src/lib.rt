@@ -12,6 +12,7 @@ ghost use Rattle.reads.specs.Answers.{gotAs};
 ghost use Rattle.rules.specs.Rules.{rulesIn};
 use fetches::OperandBytes;
 use forms::Location;
+use machine::Access;
 use machine::Alarm;
 use machine::Map;
 use machine::RealAddress;

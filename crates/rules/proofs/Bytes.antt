@@ -1,4 +1,5 @@
--- Facts of a byte from what the prover computes of the table: equal values at each byte of an interval, and no command between the rows.
+-- Facts of a byte from what the prover computes of the table: equal values at each byte of an interval, and no command
+-- between the rows.
 use Prim.Native.Nat.{ℕ, zero, suc, _+_, _≤_, _<_}
 use mathlib.Core.Path.{_≡_, refl}
 use mathlib.Core.Bool.{Bool, true, false, _&&_, _||_, and-false}
@@ -21,7 +22,8 @@ values f (suc k) n = f n ∷ values f k (suc n)
 
 pub same : {A : Type 0} (f g : ℕ → A) (k n : ℕ) → values f k n ≡ values g k n → (b : ℕ) → n ≤ b → b < n + k → f b ≡ g b
 same f g zero n e b h l = absurd (omega arith)
-same f g (suc k) n e b h l = elim (ℕ-discrete n b) [ yes p ↦ rw (← p) (cc) | no p ↦ same f g k (suc n) (cc) b (omega arith) (omega arith) ]
+same f g (suc k) n e b h l =
+    elim (ℕ-discrete n b) [ yes p ↦ rw (← p) (cc) | no p ↦ same f g k (suc n) (cc) b (omega arith) (omega arith) ]
 
 -- ---- No command
 
@@ -45,7 +47,11 @@ module _ (lo hi b : ℕ) (l : lo ≤ b) (h : b < hi) where
       (λ p. rw (lt-leb n b (omega (arith, leb→le))))
       (or-yes (leb (n + 3) lo) (leb hi n) t)
 
-  pub unknown : (rows : List Row) → T (between rows lo hi) → (N : Type 0) → NoneOf rows N b → N × (knownIn rows b ≡ none)
+  pub unknown : (rows : List Row)
+      → T (between rows lo hi)
+      → (N : Type 0)
+      → NoneOf rows N b
+      → N × (knownIn rows b ≡ none)
   unfolding knownIn
   unknown [] t N p = (p, refl)
   unknown (one n c os ∷ rows) t N p =

@@ -1,9 +1,11 @@
--- How the operand rules of a command byte are written as one number, and what they are.
+-- The operand rules of a command byte, written as one number: how such a number reads, and the number of a list of rules;
+-- the table of these numbers, byte by byte; and the mode that a byte needs.
 use Prim.Native.Nat.{ℕ, zero, suc, _+_, _*_, _/_, _%_}
 use mathlib.Core.Bool.{Bool, _||_}
 use mathlib.Core.List.{List, [], _∷_}
 use mathlib.Core.Option.{Option, none, some}
 use lib.Dec.{eqb}
+use lib.ListN.{length}
 use Rattle.machine.specs.declared.Size.{Size}
 use Rattle.machine.specs.declared.Size.the-variants.{B, H, W}
 use Rattle.machine.specs.declared.Role.{Role}
@@ -12,29 +14,41 @@ use Rattle.machine.specs.Words.{pick}
 use Rattle.machine.specs.State.{userMode}
 use Rattle.machine.specs.Code.{Rule, Known, known}
 
--- four bits an operand, the first operand lowest: its size in the low two, 1 for B, 2 for H, 3 for W, and its role in the high two; 0 ends the list.
+-- ---- How a number reads
 
+-- The highest of four hexadecimal digits is the operand count. The digits below are the operands', the first operand's
+-- lowest: the size in a digit's low two bits, the role in its high two.
+
+-- the operand count
+abbrev pub countIn : ℕ → ℕ
+countIn n = n / 0x1000
+
+-- the size in the lowest digit: 1 for B, 2 for H, 3 for W
 abbrev pub sizeIn : ℕ → Size
 sizeIn n = pick (eqb (n % 4) 1) B (pick (eqb (n % 4) 2) H W)
 
+-- the role in the lowest digit: 0 for a value, 1 for an address, 2 for a destination, 3 for an update
 abbrev pub roleIn : ℕ → Role
-roleIn n = pick (eqb (n / 4 % 4) 0) Value (pick (eqb (n / 4 % 4) 1) Address (pick (eqb (n / 4 % 4) 2) Destination Update))
+roleIn n =
+    pick (eqb (n / 4 % 4) 0) Value (pick (eqb (n / 4 % 4) 1) Address (pick (eqb (n / 4 % 4) 2) Destination Update))
 
--- at most k of them
+-- the rules in the k lowest digits
 unfoldable pub rulesFrom : ℕ → ℕ → List Rule
 rulesFrom zero n = []
-rulesFrom (suc k) n = pick (eqb n 0) [] (record { size = sizeIn n; role = roleIn n } ∷ rulesFrom k (n / 16))
+rulesFrom (suc k) n = record { size = sizeIn n; role = roleIn n } ∷ rulesFrom k (n / 16)
 
--- of a number below 65,536
+-- as many as the number says
 abbrev pub rulesIn : ℕ → List Rule
-rulesIn n = rulesFrom 4 n
+rulesIn n = rulesFrom (countIn n) n
 
--- a byte that is unknown has no operands
+-- the rules of a table entry; a byte that is unknown has no operands
 abbrev pub knownRules : Option Known → List Rule
 knownRules none = []
 knownRules (some k) = k .operands
 
--- ---- The table: the rules of each byte up to the last known one, as such numbers
+-- ---- The number of a list of rules
+
+-- a digit is the sum of its size and its role
 
 abbrev pub sizeNumber : Size → ℕ
 sizeNumber B = 1
@@ -47,16 +61,23 @@ roleNumber Address = 4
 roleNumber Destination = 8
 roleNumber Update = 12
 
-abbrev pub rulesNumber : List Rule → ℕ
-rulesNumber [] = 0
-rulesNumber (r ∷ rs) = sizeNumber (r .size) + roleNumber (r .role) + 16 * rulesNumber rs
+-- the digits alone
+abbrev pub digitsOf : List Rule → ℕ
+digitsOf [] = 0
+digitsOf (r ∷ rs) = sizeNumber (r .size) + roleNumber (r .role) + 16 * digitsOf rs
 
--- of k bytes from b on
+-- with the count above them
+abbrev pub rulesNumber : List Rule → ℕ
+rulesNumber rs = 0x1000 * length rs + digitsOf rs
+
+-- ---- The table
+
+-- the numbers of k bytes from b on
 unfoldable pub numbersFrom : ℕ → ℕ → List ℕ
 numbersFrom zero b = []
 numbersFrom (suc k) b = rulesNumber (knownRules (known b)) ∷ numbersFrom k (suc b)
 
--- 0x7A is the last
+-- each byte from 0x00 to 0x7A, the last that is known
 unfoldable pub tableOf : List ℕ
 tableOf = numbersFrom 123 0
 

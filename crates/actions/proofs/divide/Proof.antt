@@ -5,19 +5,13 @@ use Rattle.machine.specs.Integers.{operate}
 use Rattle.actions.proofs.divide.Statement.{statement}
 use Rattle.actions.proofs.divide.Tie as tie
 
-low-requires : tie.Need-low-requires
-low-requires c κs = search needs
-
 returns : tie.Need-returns
 unfolding operate
 returns c = simp (← c .before .low .ensures .0, c .if1 .taken)
-
-divide-requires : tie.Need-divide-requires
-divide-requires c κs = search needs
 
 returns-2 : tie.Need-returns-2
 unfolding operate
 returns-2 c = simp (c .divide .ensures .0, ← c .before .before .low .ensures .0, ne-eqb _ _ (c .before .if1 .left))
 
 pub divide-spec : {M : Type 1} → statement M
-divide-spec = tie.close (tie.spec low-requires returns divide-requires returns-2)
+divide-spec = tie.close (tie.spec (λ c κs. search needs) returns (λ c κs. search needs) returns-2)

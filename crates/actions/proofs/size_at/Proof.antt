@@ -12,14 +12,8 @@ word zero p q = absurd (p refl)
 word (suc zero) p q = absurd (q refl)
 word (suc (suc k)) p q = refl
 
-returns : tie.Need-returns
-returns c = search needs
-
-returns-2 : tie.Need-returns-2
-returns-2 c = search needs
-
 returns-3 : tie.Need-returns-3
 returns-3 c = word _ (c .match .rest .0 .1) (c .match .rest .1)
 
 pub size-at-spec : {M : Type 1} → statement M
-size-at-spec = tie.close (tie.spec returns returns-2 returns-3)
+size-at-spec = tie.close (tie.spec (λ c. search needs) (λ c. search needs) returns-3)

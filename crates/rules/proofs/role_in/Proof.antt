@@ -13,7 +13,9 @@ returns-3 : tie.Need-returns-3
 returns-3 c = rw (c .match .keys3)
 
 returns-4 : tie.Need-returns-4
-returns-4 c = rw (ne-eqb _ _ (c .match .rest .0 .0 .1), ne-eqb _ _ (c .match .rest .0 .1), ne-eqb _ _ (c .match .rest .1))
+returns-4 c =
+    let others = c .match .rest in
+    rw (ne-eqb _ _ (others .0 .0 .1), ne-eqb _ _ (others .0 .1), ne-eqb _ _ (others .1))
 
 pub role-in-spec : {M : Type 1} → statement M
 role-in-spec = tie.close (tie.spec returns returns-2 returns-3 returns-4)

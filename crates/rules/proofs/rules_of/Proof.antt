@@ -26,14 +26,11 @@ past : (b : ℕ) → 123 ≤ b → b < 256 → [] ≡ knownRules (known b)
 unfolding table knownIn known
 past b l h = same (λ k. []) (λ k. knownRules (known k)) 133 123 refl b l h
 
-mul-result : tie.Need-mul-result
-mul-result c = search needs
-
-element-copy-out-result : tie.Need-element-copy-out-result
-element-copy-out-result c = search needs
-
 cast-result : tie.Need-cast-result
-cast-result c = record { fits = rw (c .before .before .pre .0) (let h : getD tableOf (c .before .before .args .b) 0 < 65536 = below _ (c .before .if1 .taken) in omega arith) }
+cast-result c =
+    let start = c .before .before in
+    let h : getD tableOf (start .args .b) 0 < 65536 = below _ (c .before .if1 .taken) in
+    record { fits = rw (start .pre .0) (omega arith) }
 
 returns : tie.Need-returns
 returns c = rw (c .before .before .pre .0) (rules _ (c .before .if1 .taken), below _ (c .before .if1 .taken))
@@ -43,4 +40,5 @@ unfolding rulesFrom
 returns-2 c = (past _ (c .if1 .left) (c .before .pre .1), omega arith)
 
 pub rules-of-spec : {M : Type 1} → statement M
-rules-of-spec = tie.close (tie.spec mul-result element-copy-out-result cast-result returns returns-2)
+rules-of-spec =
+    tie.close (tie.spec (λ c. search needs) (λ c. search needs) cast-result returns returns-2)

@@ -10,7 +10,9 @@ returns-2 : tie.Need-returns-2
 returns-2 c = rw (c .match .keys2)
 
 returns-3 : tie.Need-returns-3
-returns-3 c = rw (ne-eqb _ _ (c .match .rest .0 .1), ne-eqb _ _ (c .match .rest .1))
+returns-3 c =
+    let others = c .match .rest in
+    rw (ne-eqb _ _ (others .0 .1), ne-eqb _ _ (others .1))
 
 pub size-in-spec : {M : Type 1} → statement M
 size-in-spec = tie.close (tie.spec returns returns-2 returns-3)
