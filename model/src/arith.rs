@@ -1,9 +1,16 @@
 //! Results and flags of the integer commands ("One step", 000 2.5.1 to 2.5.5).
 
 use crate::code::Op;
-use crate::fault::{Fault, Probe};
-use crate::operand::mask;
 use crate::state::*;
+
+/// The low `size` bytes set.
+pub fn mask(size: u32) -> u32 {
+    match size {
+        1 => 0xFF,
+        2 => 0xFFFF,
+        _ => 0xFFFF_FFFF,
+    }
+}
 
 /// The value as a number with sign (000, 1.1.2): minus 2^n when the highest bit is set.
 pub fn signed(value: u32, size: u32) -> i64 {
@@ -31,214 +38,87 @@ fn flag(bit: u32, on: bool) -> u32 {
 }
 
 /// N and Z from a result of `size` bytes.
-fn sign_and_zero(probe: &Probe, value: u32, exact: i64, size: u32) -> u32 {
-    let negative = if probe.is(Fault::NWord) { value >> 31 == 1 } else { signed(value, size) < 0 };
-    let zero = if probe.is(Fault::ZWord) { exact == 0 } else { value & mask(size) == 0 };
-    flag(N, negative) | flag(Z, zero)
+fn sign_and_zero(value: u32, size: u32) -> u32 {
+    flag(N, signed(value, size) < 0) | flag(Z, value & mask(size) == 0)
 }
 
-/// Result (modulo 256^L) and flags; `None` is DIV by zero. `first` and
-/// `second` are the operands' values, `old` the flags before.
-pub fn apply(probe: &Probe, op: Op, first: u32, second: u32, size: u32, old: u32) -> Option<(u32, u32)> {
+/// Result (modulo 256^L) and flags of a command that sets flags; `None` is DIV by zero.
+/// `first` and `second` are the operands' values; the result of CMP is written nowhere.
+pub fn apply(op: Op, first: u32, second: u32, size: u32) -> Option<(u32, u32)> {
+    // With sign and without.
     let (a, b) = (signed(first, size), signed(second, size));
     let (ua, ub) = (first & mask(size), second & mask(size));
-    let mut v = false;
-    let mut c = false;
-    // Flags kept by a wrong copy.
-    let mut kept = 0;
-    let exact: i64 = match op {
-        Op::Move | Op::Clear | Op::Movea => {
-            let fault = match op {
-                Op::Move => Fault::MoveKeeps,
-                Op::Clear => Fault::ClearKeeps,
-                _ => Fault::MoveaKeeps,
-            };
-            let value = if op == Op::Clear { 0 } else { ua };
-            if probe.is(fault) {
-                return Some((value, old));
-            }
-            i64::from(value)
-        }
-        Op::Moven => {
-            let exact = -a;
-            v = !fits(exact, size) && !probe.is(Fault::MovenNoV);
-            c = (ua != 0) != probe.is(Fault::MovenCInverted) && !probe.is(Fault::MovenNoC);
-            exact
-        }
-        Op::Movec => {
-            kept = flag(old & (V | C), probe.is(Fault::MovecKeepsVC));
-            i64::from(!ua & mask(size))
-        }
+    let (exact, v, c) = match op {
+        Op::Clear => (0, false, false),
+        Op::Move | Op::Movea => (i64::from(ua), false, false),
+        Op::Moven => (-a, !fits(-a, size), ua != 0),
+        Op::Movec => (i64::from(!ua), false, false),
+        Op::Or => (i64::from(ub | ua), false, false),
+        Op::Andnot => (i64::from(ub & !ua), false, false),
+        Op::Xor => (i64::from(ub ^ ua), false, false),
+        Op::Add => (b + a, !fits(b + a, size), u64::from(ub) + u64::from(ua) > u64::from(mask(size))),
+        Op::Sub => (b - a, !fits(b - a, size), ub < ua),
+        Op::Mult => (b * a, !fits(b * a, size), false),
+        Op::Div if a == 0 => return None,
+        // The fraction is dropped; lowest ÷ −1 doesn't fit.
+        Op::Div => (b / a, !fits(b / a, size), false),
         // B to W: the sign fills the higher bytes.
-        Op::Conv => {
-            let value = if probe.is(Fault::ConvZero) { first & 0xFF } else { signed(first, 1) as u32 };
-            if probe.is(Fault::ConvKeeps) {
-                return Some((value, old));
-            }
-            i64::from(value)
-        }
-        Op::Or | Op::Andnot | Op::Xor => {
-            kept = flag(old & (V | C), probe.is(Fault::LogicKeepsVC));
-            i64::from(match op {
-                Op::Or if probe.is(Fault::OrIsXor) => ub ^ ua,
-                Op::Or => ub | ua,
-                Op::Andnot if probe.is(Fault::AndnotReversed) => ua & !ub,
-                Op::Andnot => ub & !ua,
-                _ => ub ^ ua,
-            })
-        }
-        Op::Add => {
-            let extra = i64::from(old & C) * i64::from(probe.is(Fault::AddKeepsC));
-            let exact = b + a + extra;
-            c = u64::from(ub) + u64::from(ua) + extra as u64 > u64::from(mask(size));
-            v = !fits(exact, size) && !probe.is(Fault::AddNoV);
-            if probe.is(Fault::AddVisC) {
-                v = c;
-            }
-            c = c && !probe.is(Fault::AddNoC);
-            exact
-        }
-        Op::Sub => {
-            let (a, b, ua, ub) = if probe.is(Fault::SubReversed) { (b, a, ub, ua) } else { (a, b, ua, ub) };
-            let exact = b - a;
-            v = !fits(exact, size) && !probe.is(Fault::SubNoV);
-            c = (ub < ua) != probe.is(Fault::SubCInverted) && !probe.is(Fault::SubNoC);
-            exact
-        }
-        Op::Mult => {
-            let exact = b * a;
-            v = !fits(exact, size) && !probe.is(Fault::MultNoV);
-            c = v && probe.is(Fault::MultSetsC);
-            if probe.is(Fault::MultUnsigned) {
-                v = u64::from(ub) * u64::from(ua) > u64::from(mask(size));
-            }
-            exact
-        }
-        Op::Div => {
-            let (a, b) = match probe.fault {
-                Fault::DivReversed => (b, a),
-                Fault::DivUnsigned => (i64::from(ua), i64::from(ub)),
-                _ => (a, b),
-            };
-            if a == 0 {
-                if !probe.is(Fault::DivZeroRuns) {
-                    return None;
-                }
-                return Some((0, Z));
-            }
-            let mut exact = b / a;
-            if probe.is(Fault::DivFloor) && b % a != 0 && (b < 0) != (a < 0) {
-                exact -= 1;
-            }
-            v = !fits(exact, size) && !probe.is(Fault::DivNoV) && !probe.is(Fault::DivUnsigned);
-            c = b % a != 0 && probe.is(Fault::DivSetsC);
-            exact
-        }
-        Op::Sh => return Some(shift(probe, a, second)),
-        Op::Rot => return Some(rotate(probe, a, second)),
-        Op::Cmp => {
-            let less = match probe.fault {
-                Fault::CmpReversed => b < a,
-                Fault::CmpUnsigned => ua < ub,
-                Fault::CmpWrapped => signed((a - b) as u32, size) < 0,
-                _ => a < b,
-            };
-            let mut flags = flag(Z, ua == ub) | flag(N, less);
-            if probe.is(Fault::CmpKeepsVC) {
-                flags |= old & (V | C);
-            }
-            if probe.is(Fault::CmpKeepsNZ) {
-                flags |= old & (N | Z);
-            }
-            if probe.is(Fault::CmpCarry) {
-                flags |= flag(C, ub < ua);
-            }
-            return Some((0, flags));
-        }
-        _ => return Some((0, old)),
+        Op::Conv => return Some(whole(signed(first, 1) as u32, false)),
+        Op::Sh => return Some(shift(a, second)),
+        Op::Rot => return Some(whole(rotated(a, second), false)),
+        Op::Cmp => return Some((0, flag(N, a < b) | flag(Z, a == b))),
+        _ => panic!("{op:?} keeps flags"),
     };
-    let value = exact as u32 & mask(if op == Op::Conv { 4 } else { size });
-    let width = if op == Op::Conv { 4 } else { size };
-    Some((value, sign_and_zero(probe, value, exact, width) | flag(V, v) | flag(C, c) | kept))
+    let value = exact as u32 & mask(size);
+    Some((value, sign_and_zero(value, size) | flag(V, v) | flag(C, c)))
+}
+
+/// A result of four bytes with its flags.
+fn whole(value: u32, v: bool) -> (u32, u32) {
+    (value, sign_and_zero(value, 4) | flag(V, v))
 }
 
 /// SH: left by the count, or right by its negative, one bit at a time. After
 /// 64 single shifts nothing changes any more.
-fn shift(probe: &Probe, count: i64, operand: u32) -> (u32, u32) {
-    let count = if probe.is(Fault::ShModulo) { count % 32 } else { count };
+fn shift(count: i64, operand: u32) -> (u32, u32) {
     let mut value = operand;
-    let sign = operand >> 31;
-    let mut lost_differs = false;
-    let mut last = 0;
     for _ in 0..count.unsigned_abs().min(64) {
         if count > 0 {
-            last = value >> 31;
             value <<= 1;
-            lost_differs |= last != sign || value >> 31 != sign;
         } else {
-            last = value & 1;
-            lost_differs |= last == 1;
-            value = value >> 1 | flag(value & 0x8000_0000, !probe.is(Fault::ShLogical));
+            value = value >> 1 | value & 0x8000_0000;
         }
     }
-    let mut v = count >= 0 && value >> 31 != sign && !probe.is(Fault::ShNoV);
-    if count >= 0 && probe.is(Fault::ShVLost) || count < 0 && probe.is(Fault::ShVRight) {
-        v = lost_differs;
-    }
-    let c = last == 1 && probe.is(Fault::ShCarry);
-    (value, sign_and_zero(probe, value, i64::from(value), 4) | flag(V, v) | flag(C, c))
+    let sign_differs = value >> 31 != operand >> 31;
+    whole(value, count >= 0 && sign_differs)
 }
 
-/// ROT: cyclic, left by the count or right by its negative.
-fn rotate(probe: &Probe, count: i64, operand: u32) -> (u32, u32) {
-    let mut value = operand;
-    if probe.is(Fault::RotLost) && count.abs() >= 32 {
-        value = 0;
+/// ROT: cyclic, left by the count or right by its negative; 32 single
+/// rotations give the operand back.
+fn rotated(count: i64, operand: u32) -> u32 {
+    let times = (count.unsigned_abs() % 32) as u32;
+    if count > 0 {
+        operand.rotate_left(times)
+    } else {
+        operand.rotate_right(times)
     }
-    // 32 single rotations give the operand back.
-    for _ in 0..count.unsigned_abs() % 32 {
-        if count > 0 || probe.is(Fault::RotNegative) {
-            value = value << 1 | value >> 31;
-        } else {
-            value = value >> 1 | value << 31;
-        }
-    }
-    let c = value & 1 == 1 && probe.is(Fault::RotCarry);
-    (value, sign_and_zero(probe, value, i64::from(value), 4) | flag(C, c))
 }
 
 /// Whether a jump (70h to 78h) is taken.
-pub fn taken(probe: &Probe, byte: u8, status: u32) -> bool {
+pub fn taken(byte: u8, status: u32) -> bool {
     let n = status & N != 0;
     let z = status & Z != 0;
     let v = status & V != 0;
     let c = status & C != 0;
     match byte {
         0x70 => true,
-        0x71 => z != probe.is(Fault::JeqInverted),
-        0x72 if probe.is(Fault::JneN) => n || !z,
+        0x71 => z,
         0x72 => !z,
-        0x73 if probe.is(Fault::JgtZero) => !n,
         0x73 => !n && !z,
-        0x74 if probe.is(Fault::JgeZero) => !n || z,
         0x74 => !n,
-        0x75 if probe.is(Fault::JltV) => n != v,
         0x75 => n,
-        0x76 if probe.is(Fault::JleNoZ) => n,
         0x76 => n || z,
-        0x77 => {
-            if probe.is(Fault::JvIsC) {
-                c
-            } else {
-                v
-            }
-        }
-        _ => {
-            if probe.is(Fault::JcIsV) {
-                v
-            } else {
-                c
-            }
-        }
+        0x77 => v,
+        _ => c,
     }
 }

@@ -1,7 +1,6 @@
 //! A case: a memory image, a start state, calls, and what comes out.
 
 use crate::desk;
-use crate::fault::Probe;
 use crate::state::*;
 
 #[derive(Clone, Copy, PartialEq, Eq, Debug)]
@@ -50,72 +49,58 @@ pub struct Expected {
     pub memory: Vec<u8>,
 }
 
-/// Makes one call.
-pub fn make(probe: &mut Probe, call: Call, state: &State, memory: &mut [u8]) -> Outcome {
-    match call {
-        Call::Step => {
-            let answer = desk::step_with(probe, state, memory);
-            Outcome { refusal: answer.refusal, state: answer.state, event: answer.event, count: 0 }
-        }
-        Call::Run(n) => {
-            let answer = desk::run_with(probe, state, memory, u64::from(n));
-            let count = answer.count as u32;
-            Outcome { refusal: answer.refusal, state: answer.state, event: Event::Plain, count }
-        }
-        Call::Request(level) => {
-            let answer = desk::request_with(probe, state, level);
-            Outcome { refusal: answer.refusal, state: answer.state, event: Event::Plain, count: 0 }
-        }
-        Call::Fresh { system, control, start } => {
-            let answer = desk::fresh_with(probe, memory.len() as u64, system, control, start);
-            Outcome { refusal: answer.refusal, state: answer.state, event: Event::Plain, count: 0 }
+/// The four calls of the model or of a wrong copy of it.
+#[derive(Clone, Copy)]
+pub struct Desk {
+    pub fresh: fn(u64, u32, u32, u32) -> Answered,
+    pub step: fn(&State, &mut [u8]) -> Stepped,
+    pub run: fn(&State, &mut [u8], u64) -> Ran,
+    pub request: fn(&State, u32) -> Answered,
+}
+
+pub const MODEL: Desk = Desk { fresh: desk::fresh, step: desk::step, run: desk::run, request: desk::request };
+
+impl Desk {
+    /// Makes one call.
+    pub fn make(&self, call: Call, state: &State, memory: &mut [u8]) -> Outcome {
+        let answered =
+            |answer: Answered| Outcome { refusal: answer.refusal, state: answer.state, event: Event::Plain, count: 0 };
+        match call {
+            Call::Step => {
+                let answer = (self.step)(state, memory);
+                Outcome { refusal: answer.refusal, state: answer.state, event: answer.event, count: 0 }
+            }
+            Call::Run(n) => {
+                let answer = (self.run)(state, memory, u64::from(n));
+                Outcome {
+                    refusal: answer.refusal,
+                    state: answer.state,
+                    event: Event::Plain,
+                    count: answer.count as u32,
+                }
+            }
+            Call::Request(level) => answered((self.request)(state, level)),
+            Call::Fresh { system, control, start } => {
+                answered((self.fresh)(memory.len() as u64, system, control, start))
+            }
         }
     }
 }
 
+/// Makes one call of the model.
+pub fn make(call: Call, state: &State, memory: &mut [u8]) -> Outcome {
+    MODEL.make(call, state, memory)
+}
+
 /// Plays a case from its start.
-pub fn play(probe: &mut Probe, case: &Case) -> Expected {
+pub fn play(case: &Case) -> Expected {
     let mut memory = case.image.clone();
     let mut state = case.start;
     let mut outcomes = Vec::new();
     for call in &case.calls {
-        let outcome = make(probe, *call, &state, &mut memory);
+        let outcome = make(*call, &state, &mut memory);
         state = outcome.state;
         outcomes.push(outcome);
     }
     Expected { outcomes, memory }
-}
-
-/// The 24 words of a state as they are stored: R0 to R15, status, pending
-/// set, map base, map length, system block, control block, 1 if stopped, the
-/// number it is stopped with (0 if running).
-pub fn words(state: &State) -> [u32; 24] {
-    let mut words = [0; 24];
-    words[..16].copy_from_slice(&state.registers);
-    words[16] = state.status;
-    words[17] = u32::from(state.pending);
-    words[18] = state.map_base;
-    words[19] = state.map_length;
-    words[20] = state.system_block;
-    words[21] = state.control_block;
-    if let Mark::Stopped(number) = state.mark {
-        words[22] = 1;
-        words[23] = number;
-    }
-    words
-}
-
-pub fn state_of(words: &[u32; 24]) -> State {
-    let mut registers = [0; 16];
-    registers.copy_from_slice(&words[..16]);
-    State {
-        registers,
-        status: words[16],
-        pending: words[17] as u16,
-        map_base: words[18],
-        map_length: words[19],
-        system_block: words[20],
-        control_block: words[21],
-        mark: if words[22] == 0 { Mark::Running } else { Mark::Stopped(words[23]) },
-    }
 }

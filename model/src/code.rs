@@ -1,7 +1,7 @@
 //! The code bytes ("Code" in document 01).
 
 /// How a command uses an operand.
-#[derive(Clone, Copy, PartialEq, Eq, Debug)]
+#[derive(Clone, Copy, PartialEq, Eq, PartialOrd, Ord, Debug)]
 pub enum Role {
     /// Its value is used, nothing is written.
     Value,

@@ -1,9 +1,13 @@
 //! Counts what the stored cases reach. Runs are taken apart into their steps.
 
 use crate::case::{make, Call, Case};
+use crate::checks::{self, Broken};
+use crate::code::Role;
+use crate::desk;
 use crate::entry;
-use crate::fault::{Note, Part, Probe};
+use crate::notes::{Note, Notes};
 use crate::state::*;
+use crate::work::Part;
 use std::collections::BTreeMap;
 
 pub type Counts<K> = BTreeMap<K, u32>;
@@ -16,9 +20,9 @@ pub struct Cover {
     /// Command byte (256: it couldn't be fetched), kernel mode, outcome.
     pub commands: Counts<(u16, bool, u32)>,
     /// Form, role, L, kernel mode, for operands that keep the rules.
-    pub forms: Counts<(u8, u8, u32, bool)>,
+    pub forms: Counts<(u8, Role, u32, bool)>,
     /// Broken rule, role, L, kernel mode.
-    pub rules: Counts<(&'static str, u8, u32, bool)>,
+    pub rules: Counts<(&'static str, Role, u32, bool)>,
     /// Form and whether x (true) or y (false) is 15.
     pub r15: Counts<(u8, bool)>,
     /// Number, part, kernel mode.
@@ -56,19 +60,21 @@ fn kind(call: &Call) -> &'static str {
 }
 
 impl Cover {
-    /// Takes the notes of one call that was refused.
-    fn refused(&mut self, notes: &[Note], call: &Call) {
-        for note in notes {
-            if let Note::Refused { number, reason } = note {
-                add(&mut self.refusals, (*number, kind(call), reason));
-            }
-        }
+    fn refused(&mut self, broken: Broken, call: &Call) {
+        add(&mut self.refusals, (broken.number, kind(call), broken.reason));
     }
 
-    /// One step that wasn't refused.
-    fn step(&mut self, before: &State, after: &State, event: &Event, notes: &[Note]) {
+    /// Makes a step that isn't refused, and counts.
+    fn step(&mut self, before: &State, memory: &mut [u8]) -> (State, Event) {
+        let mut notes = Notes::kept();
+        let answer = desk::step_noting(&mut notes, before, memory);
+        self.stepped(before, &answer.state, &answer.event, notes.list());
+        (answer.state, answer.event)
+    }
+
+    fn stepped(&mut self, before: &State, after: &State, event: &Event, notes: &[Note]) {
         let kernel = before.kernel();
-        let interrupted = entry::interrupt(&Probe::right(), before);
+        let interrupted = entry::interrupt(before);
         for level in 1..16 {
             if before.pending >> level & 1 == 1 {
                 let fate = if kernel {
@@ -116,7 +122,6 @@ impl Cover {
                 Note::Crossing(part) => add(&mut self.crossings, *part),
                 Note::Resume(reason) => add(&mut self.resumes, *reason),
                 Note::BadEntry { cause, reason } => add(&mut self.bad_entries, (*cause, *reason)),
-                Note::Refused { .. } => {}
             }
         }
         if interrupted.is_some() {
@@ -133,7 +138,7 @@ impl Cover {
         let new = after.status & FLAGS;
         match byte {
             0x70..=0x78 => {
-                let taken = crate::arith::taken(&Probe::right(), byte, before.status);
+                let taken = crate::arith::taken(byte, before.status);
                 add(&mut self.jumps, (byte, old, taken));
             }
             0x00..=0x03 | 0x79 | 0x7A if *event != Event::Stop(16) => add(&mut self.kept, (byte, old)),
@@ -147,50 +152,45 @@ impl Cover {
         let mut memory = case.image.clone();
         let mut state = case.start;
         for call in &case.calls {
-            if let Call::Run(n) = call {
-                state = self.run(call, *n, &state, &mut memory);
-                continue;
+            let judged = match call {
+                Call::Step | Call::Run(_) => checks::of_step(&state, &memory),
+                Call::Request(level) => checks::of_request(&state, *level),
+                Call::Fresh { system, control, .. } => checks::of_fresh(memory.len() as u64, *system, *control),
+            };
+            match (judged, call) {
+                (Err(broken), _) => {
+                    self.refused(broken, call);
+                    if *call == Call::Run(0) {
+                        add(&mut self.runs, "of 0 steps, refused");
+                    }
+                    state = make(*call, &state, &mut memory).state;
+                }
+                (Ok(()), Call::Step) => state = self.step(&state, &mut memory).0,
+                (Ok(()), Call::Run(n)) => state = self.run(*n, &state, &mut memory),
+                (Ok(()), Call::Request(level)) => {
+                    let fate = match (state.stopped(), state.pending >> level & 1 == 1) {
+                        (true, _) => "stopped desk",
+                        (false, true) => "pending already",
+                        (false, false) => "new",
+                    };
+                    add(&mut self.requests, (*level, fate));
+                    state = make(*call, &state, &mut memory).state;
+                }
+                (Ok(()), Call::Fresh { .. }) => state = make(*call, &state, &mut memory).state,
             }
-            let mut probe = Probe::noting();
-            let outcome = make(&mut probe, *call, &state, &mut memory);
-            let notes = probe.notes.unwrap_or_default();
-            if outcome.refusal != 0 {
-                self.refused(&notes, call);
-            } else if *call == Call::Step {
-                self.step(&state, &outcome.state, &outcome.event, &notes);
-            } else if let Call::Request(level) = call {
-                let fate = match (state.stopped(), state.pending >> level & 1 == 1) {
-                    (true, _) => "stopped desk",
-                    (false, true) => "pending already",
-                    (false, false) => "new",
-                };
-                add(&mut self.requests, (*level, fate));
-            }
-            state = outcome.state;
         }
     }
 
-    fn run(&mut self, call: &Call, n: u32, start: &State, memory: &mut [u8]) -> State {
-        let mut probe = Probe::noting();
-        let refusal = make(&mut probe, Call::Run(0), start, memory).refusal;
-        if refusal != 0 {
-            self.refused(&probe.notes.unwrap_or_default(), call);
-            if n == 0 {
-                add(&mut self.runs, "of 0 steps, refused");
-            }
-            return *start;
-        }
+    fn run(&mut self, n: u32, start: &State, memory: &mut [u8]) -> State {
         let mut state = *start;
         let mut entries = 0;
         let mut done = 0;
         while done < n && !state.stopped() {
-            let mut probe = Probe::noting();
-            let outcome = make(&mut probe, Call::Step, &state, memory);
-            self.step(&state, &outcome.state, &outcome.event, &probe.notes.unwrap_or_default());
-            if matches!(outcome.event, Event::Entry { .. }) {
+            let (after, event) = self.step(&state, memory);
+            if matches!(event, Event::Entry { .. }) {
                 entries += 1;
             }
-            state = outcome.state;
+            state = after;
             done += 1;
         }
         add(

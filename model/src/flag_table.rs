@@ -3,12 +3,14 @@
 use crate::arith;
 use crate::code::{decode, Op};
 use crate::cover::Cover;
-use crate::fault::Probe;
 use crate::state::*;
 use crate::table::Table;
 
 pub fn levels(cover: &Cover, table: &mut Table) {
-    println!("Levels: entered, stop 16, equal, below, waits for a higher one, waits in kernel mode; requests: new, again, stopped");
+    println!(
+        "Levels: entered, stop 16, equal, below, waits for a higher one, waits in kernel mode; \
+         requests: new, again, stopped"
+    );
     let fates = [
         "entered",
         "stop 16",
@@ -44,7 +46,7 @@ fn possible(byte: u8) -> Vec<u32> {
     let mut found = Vec::new();
     for first in 0..256 {
         for second in 0..256 {
-            if let Some((_, flags)) = arith::apply(&Probe::right(), known.op, first, second, 1, 0) {
+            if let Some((_, flags)) = arith::apply(known.op, first, second, 1) {
                 if !found.contains(&flags) {
                     found.push(flags);
                 }
@@ -74,7 +76,7 @@ pub fn flags(cover: &Cover, table: &mut Table) {
     for byte in 0x70..=0x78u8 {
         let mut line = format!("  {byte:02X}h");
         for flags in 0..16 {
-            let taken = arith::taken(&Probe::right(), byte, flags);
+            let taken = arith::taken(byte, flags);
             let cell = table.cell(&cover.jumps, (byte, flags, taken), true, format!("jump {byte:02X}h flags {flags}"));
             line += &format!("{:>5}", format!("{}{cell}", if taken { "+" } else { "" }));
         }

@@ -10,10 +10,12 @@ pub mod commands;
 pub mod cover;
 pub mod desk;
 pub mod entry;
-pub mod fault;
+pub mod faults;
 pub mod flag_table;
 pub mod gen;
-pub mod memory;
+pub mod map;
+mod names;
+pub mod notes;
 pub mod operand;
 pub mod rng;
 pub mod sequences;
@@ -21,6 +23,10 @@ pub mod state;
 pub mod store;
 pub mod table;
 pub mod trace;
+pub mod words;
+pub mod work;
+
+pub use names::{fault, memory};
 
 #[cfg(test)]
 mod tests;

@@ -18,7 +18,7 @@
 //!     u16       length n, at least 1
 //!     kind 0:   n bytes
 //!     kind 1:   u8 first, u8 add; byte i is (first + i × add) modulo 256
-//!   words     start state, as changes against 24 zero words
+//!   words     start state, as changes against words that are all zero
 //!   u16       number of calls
 //!   the calls:
 //!     u8        kind: 0 step, 1 run, 2 level request, 3 fresh desk
@@ -41,14 +41,12 @@
 //!     n bytes
 //!
 //! Changes of words: u32 mask, then one u32 for each bit set, from bit 0 (word
-//! 0) upward: the new value of that word.
-//!
-//! The 24 words of a state: 0 to 15 R0 to R15, 16 status, 17 pending set, 18
-//! map base, 19 map length, 20 system block, 21 control block, 22 is 0 for
-//! running and 1 for stopped, 23 the number stopped with (0 if running).
+//! 0) upward: the new value of that word. The words of a state are those of
+//! `words.rs`.
 
 use crate::case::*;
 use crate::state::*;
+use crate::words::*;
 
 pub const MAGIC: &[u8; 8] = b"MIDESK01";
 pub const SMALL: usize = 65_536;
@@ -136,7 +134,7 @@ fn case_to(out: &mut Vec<u8>, case: &Case, expected: &Expected) {
         u16_to(out, length);
         out.extend(&case.image[at..at + length]);
     }
-    changes_to(out, &[0; 24], &words(&case.start));
+    changes_to(out, &[0; WORDS], &words(&case.start));
     u16_to(out, case.calls.len());
     let mut before = case.start;
     for (call, outcome) in case.calls.iter().zip(&expected.outcomes) {
@@ -244,7 +242,7 @@ impl Reader<'_> {
                 image[at as usize..(at + length) as usize].copy_from_slice(self.take(length as usize));
             }
         }
-        let mut state = [0; 24];
+        let mut state = [0; WORDS];
         self.changes(&mut state);
         let start = state_of(&state);
         let mut calls = Vec::new();
@@ -263,7 +261,7 @@ impl Reader<'_> {
         (Case { ramps, image, start, calls }, Expected { outcomes, memory })
     }
 
-    fn call(&mut self, state: &mut [u32; 24]) -> (Call, Outcome) {
+    fn call(&mut self, state: &mut Words) -> (Call, Outcome) {
         let before = state_of(state);
         let call = match self.number(1) {
             0 => Call::Step,

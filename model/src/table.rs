@@ -2,7 +2,7 @@
 
 use crate::code::{decode, Op, Role};
 use crate::cover::{Counts, Cover, FINE};
-use crate::fault::{role_index, Part};
+use crate::work::Part;
 
 /// Collects cells; a cell that must be reached and isn't is missing.
 #[derive(Default)]
@@ -106,7 +106,10 @@ pub fn commands(cover: &Cover, table: &mut Table) {
     println!(
         "  impossible: 9 to 11 in kernel mode (no map); 11 without a write; 13 but for HALT, RESUME and system call;"
     );
-    println!("  HALT and RESUME in user mode and the system call in kernel mode end with 13; 14 needs an operand; 15 needs DIV\n");
+    println!(
+        "  HALT and RESUME in user mode and the system call in kernel mode end with 13; \
+         14 needs an operand; 15 needs DIV\n"
+    );
 }
 
 pub fn forms(cover: &Cover, table: &mut Table) {
@@ -123,7 +126,7 @@ pub fn forms(cover: &Cover, table: &mut Table) {
                             _ => true,
                         };
                     let label = format!("form {form} as {name} of {size} in {} mode", mode_name(kernel));
-                    let cell = table.cell(&cover.forms, (form, role_index(role), size, kernel), wanted, label);
+                    let cell = table.cell(&cover.forms, (form, role, size, kernel), wanted, label);
                     line += &format!("{cell:>8}");
                 }
                 println!("{line}");
@@ -176,7 +179,7 @@ pub fn rules(cover: &Cover, table: &mut Table) {
                     };
                 for kernel in [false, true] {
                     let label = format!("rule {rule} as {name} of {size} in {} mode", mode_name(kernel));
-                    let cell = table.cell(&cover.rules, (rule, role_index(role), size, kernel), wanted, label);
+                    let cell = table.cell(&cover.rules, (rule, role, size, kernel), wanted, label);
                     line += &format!("{cell:>4}");
                 }
             }
@@ -311,14 +314,15 @@ pub fn refusals(cover: &Cover, table: &mut Table) {
     println!("RESUME");
     for what in [
         "good",
-        "block doesn't fit",
-        "block no multiple of 4",
+        "control block doesn't fit",
+        "control block no multiple of 4",
         "map base no multiple of 4",
         "map doesn't fit",
         "block has a kernel status",
         "block has an undefined status bit",
     ] {
-        println!("  {what:32} {:>6}", table.cell(&cover.resumes, what, true, format!("RESUME: {what}")));
+        let cell = table.cell(&cover.resumes, what, true, format!("RESUME: {what}"));
+        println!("  {:32} {cell:>6}", what.trim_start_matches("control "));
     }
     println!();
 }

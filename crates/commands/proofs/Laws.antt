@@ -7,6 +7,8 @@ use mathlib.Core.Option.{Option, none, some}
 use native.Mathlib.Omega.{arith}
 use Rattle.machine.specs.declared.Map.{Map}
 use Rattle.machine.specs.declared.RealAddress.{RealAddress}
+use Rattle.machine.specs.declared.Alarm.{Alarm}
+use Rattle.machine.specs.declared.Alarm.the-variants as alarms
 use Rattle.machine.specs.declared.Access.{Access}
 use Rattle.machine.specs.declared.Access.the-variants.{Fetch}
 use Rattle.machine.specs.declared.Size.{Size}
@@ -22,11 +24,12 @@ use Rattle.machine.specs.Commands.{Done, stored, commonDone, done, knownOr12, a
 use Rattle.stores.specs.declared.Stored.{Stored}
 use Rattle.stores.specs.Answers.{storedAs, storeEndOf}
 use Rattle.rules.specs.Rules.{knownRules, forbiddenOf}
-use Rattle.actions.specs.Actions.{given, commonAction, commandAction, knownAction}
-use Rattle.actions.specs.Actions.{actionOf as asked}
+use Rattle.actions.specs.Actions.{given, commonAction, commandAction, knownAction, actionOf}
 use Rattle.results.specs.declared.Out.{Out}
 use Rattle.results.specs.Ends.{End, alarmed, outAs, afterStore, AfterStore, writtenEnd, doneEnd}
 use Rattle.commands.specs.Execution.{userEnd, kernelEnd, execOf, actionEnd}
+use Rattle.reads.proofs.Reading.{read-virtual}
+use Rattle.results.proofs.Ends.{same-status}
 use Rattle.commands.proofs.Modes.{forbids, forbidsKnown, forbids-byte}
 
 -- ---- A command whose byte and operands are known
@@ -65,7 +68,7 @@ module _ (s : ℕ) (m : Memory) (v : View) where
         (userEnd s m v (knownOr12 b k >>= (λ k. allowedInUserMode b (k .command) >>= (λ c. operandsOf v (k .operands) (past 1 r) >>= (λ o. completionOf userEffect c v (flagsOf s) o)))))
         (kernelEnd s m v (knownOr12 b k >>= (λ k. allowedInKernelMode b (k .command) >>= (λ c. operandsOf v (k .operands) (past 1 r) >>= (λ o. completionOf kernelEffect c v (flagsOf s) o)))))
 
-    forbidden-end : (u : Bool) (c : Command) (ks : List Rule) → forbids u c ≡ true → fetchedEnd u (some (record { command = c; operands = ks })) ≡ alarmed 13 b m
+    forbidden-end : (u : Bool) (c : Command) (ks : List Rule) → forbids u c ≡ true → fetchedEnd u (some (record { command = c; operands = ks })) ≡ alarmed alarms.Mode b m
     unfolding fetchedEnd knownOr12 allowedInUserMode allowedInKernelMode
     forbidden-end u (common c) ks h = absurd (false≢true h)
     forbidden-end true (userOnly k) ks h = absurd (false≢true h)
@@ -73,7 +76,7 @@ module _ (s : ℕ) (m : Memory) (v : View) where
     forbidden-end true (kernelOnly k) ks h = refl
     forbidden-end false (kernelOnly k) ks h = absurd (false≢true h)
 
-    alarm-end : (u : Bool) (c : Command) (ks : List Rule) (n x : ℕ) → forbids u c ≡ false → operandsOf v ks (past 1 r) ≡ alarm n x
+    alarm-end : (u : Bool) (c : Command) (ks : List Rule) (n : Alarm) (x : ℕ) → forbids u c ≡ false → operandsOf v ks (past 1 r) ≡ alarm n x
         → fetchedEnd u (some (record { command = c; operands = ks })) ≡ alarmed n x m
     unfolding fetchedEnd knownOr12 allowedInUserMode allowedInKernelMode
     alarm-end true (common c) ks n x h a = rw a
@@ -83,32 +86,32 @@ module _ (s : ℕ) (m : Memory) (v : View) where
     alarm-end true (kernelOnly k) ks n x h a = absurd (false≢true (sym h))
     alarm-end false (kernelOnly k) ks n x h a = rw a
 
-    asked-end : (u : Bool) (c : Command) (ks : List Rule) (o : Operands) → forbids u c ≡ false → operandsOf v ks (past 1 r) ≡ got o
+    action-end : (u : Bool) (c : Command) (ks : List Rule) (o : Operands) → forbids u c ≡ false → operandsOf v ks (past 1 r) ≡ got o
         → fetchedEnd u (some (record { command = c; operands = ks })) ≡ actionEnd s m v (o .registers) (o .first) (o .target) (commandAction c (flagsOf s) (o .first) (o .second))
     unfolding fetchedEnd knownOr12 allowedInUserMode allowedInKernelMode completionOf actionEnd userEffect kernelEffect
-    asked-end true (common c) ks o h a = rw a (user-done (commonDone c v (flagsOf s) o) ∙ common-end o c)
-    asked-end false (common c) ks o h a = rw a (kernel-done (commonDone c v (flagsOf s) o) ∙ common-end o c)
-    asked-end true (userOnly systemCall) ks o h a = rw a
-    asked-end false (userOnly k) ks o h a = absurd (false≢true (sym h))
-    asked-end true (kernelOnly k) ks o h a = absurd (false≢true (sym h))
-    asked-end false (kernelOnly HALT) ks o h a = rw a
-    asked-end false (kernelOnly RESUME) ks o h a = rw a
+    action-end true (common c) ks o h a = rw a (user-done (commonDone c v (flagsOf s) o) ∙ common-end o c)
+    action-end false (common c) ks o h a = rw a (kernel-done (commonDone c v (flagsOf s) o) ∙ common-end o c)
+    action-end true (userOnly systemCall) ks o h a = rw a
+    action-end false (userOnly k) ks o h a = absurd (false≢true (sym h))
+    action-end true (kernelOnly k) ks o h a = absurd (false≢true (sym h))
+    action-end false (kernelOnly HALT) ks o h a = rw a
+    action-end false (kernelOnly RESUME) ks o h a = rw a
 
-    forbidden-known : (u : Bool) (k : Option Known) → forbidsKnown u k ≡ true → fetchedEnd u k ≡ alarmed 13 b m
+    forbidden-known : (u : Bool) (k : Option Known) → forbidsKnown u k ≡ true → fetchedEnd u k ≡ alarmed alarms.Mode b m
     forbidden-known u none h = absurd (false≢true h)
     forbidden-known u (some k) h = forbidden-end u (k .command) (k .operands) h
 
-    alarm-known : (u : Bool) (k : Option Known) (n x : ℕ) → forbidsKnown u k ≡ false → operandsOf v (knownRules k) (past 1 r) ≡ alarm n x → fetchedEnd u k ≡ alarmed n x m
+    alarm-known : (u : Bool) (k : Option Known) (n : Alarm) (x : ℕ) → forbidsKnown u k ≡ false → operandsOf v (knownRules k) (past 1 r) ≡ alarm n x → fetchedEnd u k ≡ alarmed n x m
     unfolding operandsFrom
     alarm-known u none n x h a = cc
     alarm-known u (some k) n x h a = alarm-end u (k .command) (k .operands) n x h a
 
-    asked-known : (u : Bool) (k : Option Known) (o : Operands) → forbidsKnown u k ≡ false → operandsOf v (knownRules k) (past 1 r) ≡ got o
+    action-known : (u : Bool) (k : Option Known) (o : Operands) → forbidsKnown u k ≡ false → operandsOf v (knownRules k) (past 1 r) ≡ got o
         → fetchedEnd u k ≡ actionEnd s m v (o .registers) (o .first) (o .target) (knownAction k b (flagsOf s) (o .first) (o .second))
     unfolding fetchedEnd knownOr12 actionEnd
-    asked-known true none o h a = refl
-    asked-known false none o h a = refl
-    asked-known u (some k) o h a = asked-end u (k .command) (k .operands) o h a
+    action-known true none o h a = refl
+    action-known false none o h a = refl
+    action-known u (some k) o h a = action-end u (k .command) (k .operands) o h a
 
 -- ---- The whole command
 
@@ -117,7 +120,7 @@ pick-same true e = refl
 pick-same false e = refl
 
 module _ (s : ℕ) (map : Map) (r : Registers) (m : Memory) where
-  pub exec-unfetched : (n x : ℕ) → alarm n x ≡ readBytes (viewBy s map m) Fetch 1 (record { 0 = reg r 15 }) → alarmed n x m ≡ execOf s map r m
+  pub exec-unfetched : (n : Alarm) (x : ℕ) → alarm n x ≡ readBytes (viewBy s map m) Fetch 1 (record { 0 = reg r 15 }) → alarmed n x m ≡ execOf s map r m
   unfolding execOf userCommand kernelCommand commandBy
   exec-unfetched n x h = rw (read-virtual, ← h, pick-same)
 
@@ -126,14 +129,14 @@ module _ (s : ℕ) (map : Map) (r : Registers) (m : Memory) where
     unfolding execOf userCommand kernelCommand commandBy fetchedEnd
     fetched = rw (read-virtual, ← h)
 
-    pub exec-forbidden : forbiddenOf b s ≡ true → alarmed 13 b m ≡ execOf s map r m
+    pub exec-forbidden : forbiddenOf b s ≡ true → alarmed alarms.Mode b m ≡ execOf s map r m
     exec-forbidden f = sym (fetched ∙ forbidden-known s m (viewBy s map m) r b (userMode s) (known b) (forbids-byte (userMode s) b l ∙ f))
 
     module _ (f : forbiddenOf b s ≡ false) where
-      pub exec-alarm : (n x : ℕ) → alarm n x ≡ operandsOf (viewBy s map m) (knownRules (known b)) (past 1 r) → alarmed n x m ≡ execOf s map r m
+      pub exec-alarm : (n : Alarm) (x : ℕ) → alarm n x ≡ operandsOf (viewBy s map m) (knownRules (known b)) (past 1 r) → alarmed n x m ≡ execOf s map r m
       exec-alarm n x a = sym (fetched ∙ alarm-known s m (viewBy s map m) r b (userMode s) (known b) n x (forbids-byte (userMode s) b l ∙ f) (sym a))
 
       pub exec-action : (o : Operands) → got o ≡ operandsOf (viewBy s map m) (knownRules (known b)) (past 1 r)
-          → actionEnd s m (viewBy s map m) (o .registers) (o .first) (o .target) (asked b (flagsOf s) (o .first) (o .second)) ≡ execOf s map r m
-      unfolding asked
-      exec-action o a = sym (fetched ∙ asked-known s m (viewBy s map m) r b (userMode s) (known b) o (forbids-byte (userMode s) b l ∙ f) (sym a))
+          → actionEnd s m (viewBy s map m) (o .registers) (o .first) (o .target) (actionOf b (flagsOf s) (o .first) (o .second)) ≡ execOf s map r m
+      unfolding actionOf
+      exec-action o a = sym (fetched ∙ action-known s m (viewBy s map m) r b (userMode s) (known b) o (forbids-byte (userMode s) b l ∙ f) (sym a))

@@ -1,2 +1,2 @@
-pub mod Laws
-pub mod Modes
+mod Modes
+mod Laws

@@ -1,1 +1,1 @@
-pub mod Ending
+mod Quiet

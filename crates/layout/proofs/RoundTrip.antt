@@ -1,10 +1,11 @@
--- States and their 90 bytes are one for one, so that a refused call leaves every byte as it was.
+-- States and their 90 bytes are one for one.
 use Prim.Native.Nat.{ℕ, zero, suc, _+_, _*_, _/_, _%_, _<_, _≤_}
 use mathlib.Core.Path.{_≡_, refl, sym, ap, _∙_}
 use mathlib.Core.Bool.{Bool, true, false}
 use mathlib.Core.Logic.{_≢_}
 use mathlib.Core.List.{List, [], _∷_, _++_, append-assoc}
 use native.Mathlib.Nat.{add-zero}
+use native.Mathlib.Numerals.{add-one}
 use native.Mathlib.Omega.{arith}
 use borrow.Author.Tests.{eqb-true, ne-eqb}
 use lib.Dec.{eqb}
@@ -13,15 +14,10 @@ use lib.Seq.{take-add, take-at, drop-cons, drop-drop, drop-length, getD-append-a
 use Rattle.machine.specs.declared.Mark.{Mark}
 use Rattle.machine.specs.declared.Mark.the-variants.{Running, Stopped}
 use Rattle.machine.specs.declared.Desk.{Desk}
-use Rattle.machine.specs.declared.Refusal.{Refusal}
-use Rattle.machine.specs.declared.Answer.the-variants.{Refused}
-use Rattle.machine.specs.Words.{Memory, pick, byteAt, bytesOf, bytesOfWords, wordAt, wordsAt}
-use Rattle.machine.specs.Calls.{stepRefusal, requestRefusal, unchanged, unlessRefused, requestOutcome, requestOf}
+use Rattle.machine.specs.Words.{pick, byteAt, bytesOf, bytesOfWords, wordAt, wordsAt}
 use Rattle.machine.proofs.Bytes.{bytes-length, bytes-joined, word-joined}
 use Rattle.machine.proofs.Blocks.{words-length}
-use Rattle.runs.proofs.Runs as turns
-use Rattle.layout.specs.Layout.{stateBytes, runs, markNumber, markOf, wordsOf, packed, unpacked}
-use Rattle.midesk.specs.Exports.{repliedOf, requestCall, stepLeft, stepCall, runLeft, runCall}
+use Rattle.layout.specs.Layout.{stateBytes, runs, markNumber, markOf, otherWords, wordsOf, packed, unpacked}
 
 -- ---- The mark
 
@@ -40,7 +36,8 @@ word-mark (Stopped n) h = rw (ne-eqb n runs (λ e. h (ap Stopped e)))
 
 -- ---- Bytes, their words, and the bytes again
 
-four : (x y z w : ℕ) → x < 256 → y < 256 → z < 256 → w < 256 → bytesOf 4 (x * 0x100_0000 + y * 0x1_0000 + z * 0x100 + w) ≡ x ∷ y ∷ z ∷ w ∷ []
+four : (x y z w : ℕ) → x < 256 → y < 256 → z < 256 → w < 256
+    → bytesOf 4 (x * 0x100_0000 + y * 0x1_0000 + z * 0x100 + w) ≡ x ∷ y ∷ z ∷ w ∷ []
 unfolding bytesOf
 four x y z w hx hy hz hw =
     let v : ℕ = x * 0x100_0000 + y * 0x1_0000 + z * 0x100 + w in
@@ -58,18 +55,23 @@ module _ (b : List ℕ) (small : (i : ℕ) → byteAt b i < 256) where
   word-bytes : (a : ℕ) → a + 4 ≤ length b → bytesOf 4 (wordAt b a) ≡ take 4 (drop a b)
   unfolding wordAt
   word-bytes a h =
-      let second : a + 1 ≡ suc a = omega arith in
-      let third : a + 2 ≡ suc (suc a) = omega arith in
-      let fourth : a + 3 ≡ suc (suc (suc a)) = omega arith in
-      four (byteAt b a) (byteAt b (a + 1)) (byteAt b (a + 2)) (byteAt b (a + 3)) (small a) (small (a + 1)) (small (a + 2)) (small (a + 3))
-      ∙ rw (second, third, fourth, drop-cons b a 0 (omega arith), drop-cons b (suc a) 0 (omega arith), drop-cons b (suc (suc a)) 0 (omega arith), drop-cons b (suc (suc (suc a))) 0 (omega arith))
+      four _ _ _ _ (small a) (small (a + 1)) (small (a + 2)) (small (a + 3))
+      ∙ rw (
+        next a (a + 1) (omega arith),
+        next (a + 1) (a + 2) (omega arith),
+        next (a + 2) (a + 3) (omega arith),
+        next (a + 3) (a + 4) (omega arith),
+      )
+    where
+      next : (i j : ℕ) → (i < length b) × (i + 1 ≡ j) → drop i b ≡ byteAt b i ∷ drop j b
+      next i j e = rw (← e .1, add-one) (drop-cons b i 0 (e .0))
 
   words-bytes : (k a : ℕ) → a + 4 * k ≤ length b → bytesOfWords (wordsAt k b a) ≡ take (4 * k) (drop a b)
   unfolding bytesOfWords wordsAt
   words-bytes zero a h = refl
   words-bytes (suc k) a h =
       let e : 4 * suc k ≡ 4 + 4 * k = omega arith in
-      rw (e, take-add 4 (4 * k) (drop a b), drop-drop 4 a b, word-bytes a (omega arith), words-bytes k (a + 4) (omega arith))
+      rw (e, take-add 4 (4 * k), drop-drop 4 a b, word-bytes a (omega arith), words-bytes k (a + 4) (omega arith))
 
   pending-bytes : length b ≡ stateBytes → bytesOf 2 (byteAt b 88 * 256 + byteAt b 89) ≡ drop 88 b
   unfolding bytesOf
@@ -89,29 +91,34 @@ packed-unpacked b l small =
 
 -- ---- Words, their bytes, and the words again
 
--- a desk of 16 registers whose numbers have room in their bytes, and that did not stop with the number that says that it runs
+-- a desk of 16 registers whose numbers have room in their bytes, not stopped with the number that says that it runs
 pub record Held (d : Desk) : Type 0 where
   pub sixteen : length (d .registers) ≡ 16
   pub words : (i : ℕ) → getD (wordsOf d) i 0 < 0x1_0000_0000
   pub pending : d .pending < 0x1_0000
   pub told : d .mark ≢ Stopped runs
 
-word-back : (before after : List ℕ) (w : ℕ) → w < 0x1_0000_0000 → wordAt (before ++ (bytesOf 4 w ++ after)) (length before) ≡ w
+word-back : (before after : List ℕ) (w : ℕ) → w < 0x1_0000_0000
+    → wordAt (before ++ (bytesOf 4 w ++ after)) (length before) ≡ w
 word-back before after w h =
-    let at : (n : ℕ) → byteAt (before ++ (bytesOf 4 w ++ after)) (length before + n) ≡ byteAt (bytesOf 4 w ++ after) n = λ n. getD-append-add before (bytesOf 4 w ++ after) n 0 in
-    let first : byteAt (before ++ (bytesOf 4 w ++ after)) (length before) ≡ byteAt (bytesOf 4 w ++ after) 0 = rw add-zero at (at 0) in
-    word-joined (before ++ (bytesOf 4 w ++ after)) (length before) ∙ rw (first, at 1, at 2, at 3) (unfold bytesOf in bytes-joined 4 0 w ∙ omega arith)
+    word-joined (before ++ rest) (length before)
+    ∙ rw (rw add-zero at (at 0), at 1, at 2, at 3) (unfold bytesOf in bytes-joined 4 0 w ∙ omega arith)
+  where
+    rest : List ℕ
+    rest = bytesOf 4 w ++ after
 
-words-back : (ws before after : List ℕ) → ((i : ℕ) → getD ws i 0 < 0x1_0000_0000) → wordsAt (length ws) (before ++ (bytesOfWords ws ++ after)) (length before) ≡ ws
+    at : (n : ℕ) → byteAt (before ++ rest) (length before + n) ≡ byteAt rest n
+    at n = getD-append-add before rest n 0
+
+words-back : (ws before after : List ℕ) → ((i : ℕ) → getD ws i 0 < 0x1_0000_0000)
+    → wordsAt (length ws) (before ++ (bytesOfWords ws ++ after)) (length before) ≡ ws
 unfolding bytesOfWords wordsAt
 words-back [] before after h = refl
 words-back (w ∷ ws) before after h =
+    let rest : List ℕ = bytesOfWords ws ++ after in
     let l : length (before ++ bytesOf 4 w) ≡ length before + 4 = rw (length-append, bytes-length 4 w) in
-    rw (append-assoc (bytesOf 4 w) (bytesOfWords ws) after, word-back before (bytesOfWords ws ++ after) w (h 0))
-    (ap (λ (vs : List ℕ). w ∷ vs) (rw (← append-assoc before (bytesOf 4 w) (bytesOfWords ws ++ after), ← l) (words-back ws (before ++ bytesOf 4 w) after (λ i. h (suc i)))))
-
-abbrev otherWords : Desk → List ℕ
-otherWords d = d .status ∷ d .base .0 ∷ d .entries ∷ d .system .0 ∷ d .control .0 ∷ markNumber (d .mark) ∷ []
+    let others = rw (l, append-assoc) at (words-back ws (before ++ bytesOf 4 w) after (λ i. h (suc i))) in
+    rw (append-assoc (bytesOf 4 w) (bytesOfWords ws) after, word-back before rest w (h 0), others)
 
 module _ (d : Desk) (h : Held d) where
   words-22 : length (wordsOf d) ≡ 22
@@ -135,35 +142,17 @@ module _ (d : Desk) (h : Held d) where
   unfolding packed
   pending-back =
       let l : length (bytesOfWords (wordsOf d)) ≡ 88 = rw (words-length (wordsOf d), words-22) in
-      let at : (n : ℕ) → byteAt (packed d) (88 + n) ≡ byteAt (bytesOf 2 (d .pending)) n = λ n. rw l at (getD-append-add (bytesOfWords (wordsOf d)) (bytesOf 2 (d .pending)) n 0) in
-      rw (at 0, at 1) (unfold bytesOf in omega (arith, h .pending))
+      let at = getD-append-add (bytesOfWords (wordsOf d)) (bytesOf 2 (d .pending)) in
+      rw (rw l at (at 0 0), rw l at (at 1 0)) (unfold bytesOf in omega (arith, h .pending))
 
   -- the state that a desk's bytes hold is that desk
   pub unpacked-packed : unpacked (packed d) ≡ d
   unfolding unpacked wordsAt
   unpacked-packed =
       let status : wordAt (packed d) 64 ≡ d .status = word-after 0 in
-      let base : wordAt (packed d) 68 ≡ d .base .0 = word-after 1 in
-      let entries : wordAt (packed d) 72 ≡ d .entries = word-after 2 in
+      let base : wordAt (packed d) 68 ≡ d .map .base .0 = word-after 1 in
+      let length : wordAt (packed d) 72 ≡ d .map .length = word-after 2 in
       let system : wordAt (packed d) 76 ≡ d .system .0 = word-after 3 in
       let control : wordAt (packed d) 80 ≡ d .control .0 = word-after 4 in
       let mark : wordAt (packed d) 84 ≡ markNumber (d .mark) = word-after 5 in
-      rw (registers-back, status, base, entries, system, control, mark, word-mark (d .mark) (h .told), pending-back)
-
--- ---- Refused calls
-
-module _ (b : List ℕ) (l : length b ≡ stateBytes) (small : (i : ℕ) → byteAt b i < 256) where
-  -- a refused step leaves the state's bytes and the memory
-  pub refused-step : (m : Memory) (k : Refusal) → stepRefusal (unpacked b) (length m) ≡ Refused k → ((stepCall b m) .state ≡ b) × ((stepCall b m) .memory ≡ m)
-  unfolding stepCall stepLeft
-  refused-step m k e = rw (← turns.refused-step (unpacked b) m k e) (packed-unpacked b l small, refl)
-
-  -- a refused run leaves them too
-  pub refused-run : (n : ℕ) (m : Memory) (k : Refusal) → stepRefusal (unpacked b) (length m) ≡ Refused k → ((runCall n b m) .state ≡ b) × ((runCall n b m) .memory ≡ m)
-  unfolding runCall runLeft
-  refused-run n m k e = rw (← turns.refused-run (unpacked b) m n k e) (packed-unpacked b l small, refl)
-
-  -- a refused request leaves the state's bytes
-  pub refused-request : (level : ℕ) (k : Refusal) → requestRefusal (unpacked b) level ≡ Refused k → (requestCall b level) .state ≡ b
-  unfolding requestCall repliedOf requestOf requestOutcome unlessRefused unchanged
-  refused-request level k e = rw e (packed-unpacked b l small)
+      rw (registers-back, status, base, length, system, control, mark, word-mark (d .mark) (h .told), pending-back)

@@ -1,4 +1,4 @@
--- The state of a desk as 90 bytes, each value highest byte first. Every 90 bytes are one state, and no two are the same state.
+-- The state of a desk as 90 bytes, each value highest byte first. Every 90 bytes are one state, no two the same.
 --
 --    0  R0 to R15, four bytes each
 --   64  status word
@@ -19,7 +19,7 @@ use Rattle.machine.specs.Words.{pick, byteAt, bytesOf, bytesOfWords, wordAt, wo
 abbrev pub stateBytes : ℕ
 stateBytes = 90
 
--- the word that says that a desk runs: no call stops a desk with this number (proofs/Stops.antt)
+-- the word that says that a desk runs: no call stops a desk with this number (crates/midesk/proofs/Stops.antt)
 abbrev pub runs : ℕ
 runs = 0xFFFF_FFFF
 
@@ -30,9 +30,13 @@ markNumber (Stopped n) = n
 unfoldable pub markOf : ℕ → Mark
 markOf n = pick (eqb n runs) Running (Stopped n)
 
+-- the words after the registers
+abbrev pub otherWords : Desk → List ℕ
+otherWords d = d .status ∷ d .map .base .0 ∷ d .map .length ∷ d .system .0 ∷ d .control .0 ∷ markNumber (d .mark) ∷ []
+
 -- the 22 words, in their order
 unfoldable pub wordsOf : Desk → List ℕ
-wordsOf d = d .registers ++ d .status ∷ d .base .0 ∷ d .entries ∷ d .system .0 ∷ d .control .0 ∷ markNumber (d .mark) ∷ []
+wordsOf d = d .registers ++ otherWords d
 
 unfoldable pub packed : Desk → List ℕ
 packed d = bytesOfWords (wordsOf d) ++ bytesOf 2 (d .pending)
@@ -42,8 +46,7 @@ unpacked b = record {
   registers = wordsAt 16 b 0;
   status = wordAt b 64;
   pending = byteAt b 88 * 256 + byteAt b 89;
-  base = record { 0 = wordAt b 68 };
-  entries = wordAt b 72;
+  map = record { base = record { 0 = wordAt b 68 }; length = wordAt b 72 };
   system = record { 0 = wordAt b 76 };
   control = record { 0 = wordAt b 80 };
   mark = markOf (wordAt b 84);

@@ -26,7 +26,7 @@ use Rattle.results.specs.Ends.{outAs}
 use Rattle.commands.specs.Execution.{execOf}
 use Rattle.entry.specs.Replies.{stepped, steppedTo, shown, enteredBy, concludedEnd, Blocks}
 use Rattle.levels.specs.Due.{interruptOf}
-use Rattle.entry.proofs.Ending.{step-enters, command-step}
+use Rattle.runs.proofs.Ending.{step-enters, command-step}
 
 -- ---- What the calls of a step rely on, in a memory of the same length
 

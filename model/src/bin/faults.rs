@@ -1,42 +1,39 @@
-//! Plays the stored cases on every wrong copy: `faults FILE`. Ends with 1 if
-//! a copy isn't told apart, or if the model itself differs from the file.
+//! Plays the stored cases on every wrong copy of the model: `faults FILE`. Ends
+//! with 1 if a copy isn't told apart, or if the model itself differs from the file.
+//! `faults --check` only looks whether every edit in `faults/` applies.
 
-use model::case::{make, Case, Expected};
-use model::fault::{Fault, Probe, ALL};
-use model::store;
-
-/// Whether a copy gives anything else than what is stored.
-fn differs(fault: Fault, case: &Case, expected: &Expected) -> bool {
-    let mut probe = Probe::wrong(fault);
-    let mut memory = case.image.clone();
-    let mut state = case.start;
-    for (call, wanted) in case.calls.iter().zip(&expected.outcomes) {
-        let outcome = make(&mut probe, *call, &state, &mut memory);
-        if outcome != *wanted {
-            return true;
-        }
-        state = outcome.state;
-    }
-    memory != expected.memory
-}
+use model::faults::{copies, edits, of_model, Told};
+use std::path::Path;
 
 fn main() {
-    let path = std::env::args().nth(1).expect("usage: faults FILE");
-    let cases = store::read(&std::fs::read(path).expect("read"));
-    let count = |fault| cases.iter().filter(|(case, expected)| differs(fault, case, expected)).count();
-    let right = count(Fault::None);
-    println!("{:5}  the model itself (must be 0)", right);
+    let argument = std::env::args().nth(1).unwrap_or_else(|| fail("usage: faults FILE | --check"));
+    let faults = edits::applied().unwrap_or_else(|why| fail(&why));
+    if argument == "--check" {
+        println!("{} edits for wrong copies apply", faults.len());
+        return;
+    }
+    let cases = Path::new(&argument);
+    let (right, all) = of_model(cases);
+    println!("{right:5}  the model itself (must be 0)");
+    let sources = edits::sources().unwrap_or_else(|why| fail(&why));
+    let told = copies::tell(&sources, &faults, cases).unwrap_or_else(|why| fail(&why));
     let mut missed = Vec::new();
-    for (fault, text) in ALL {
-        let told = count(*fault);
-        println!("{told:5}  {fault:?}: {text}");
-        if told == 0 {
-            missed.push(*fault);
+    for (fault, _) in &faults {
+        let Told { cases, panics } = told.get(&fault.name).copied().unwrap_or_default();
+        let remark = if panics > 0 { format!(" ({panics} by a panic)") } else { String::new() };
+        println!("{cases:5}  {}: {}{remark}", fault.name, fault.text);
+        if cases == 0 {
+            missed.push(&fault.name);
         }
     }
-    println!("{} wrong copies, {} told apart, {} cases", ALL.len(), ALL.len() - missed.len(), cases.len());
+    println!("{} wrong copies, {} told apart, {all} cases", faults.len(), faults.len() - missed.len());
     if right != 0 || !missed.is_empty() {
         println!("not told apart: {missed:?}");
         std::process::exit(1);
     }
+}
+
+fn fail(why: &str) -> ! {
+    eprintln!("{why}");
+    std::process::exit(1);
 }

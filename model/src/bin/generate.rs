@@ -1,7 +1,6 @@
 //! Writes the stored cases: `generate OUT`.
 
 use model::case::play;
-use model::fault::Probe;
 use model::{gen, store};
 
 fn main() {
@@ -12,7 +11,7 @@ fn main() {
         let mut calls = 0;
         let mut made = Vec::new();
         for case in cases {
-            let expected = play(&mut Probe::right(), &case);
+            let expected = play(&case);
             calls += case.calls.len();
             made.push((case, expected));
         }

@@ -7,7 +7,6 @@ use crate::arith;
 use crate::asm;
 use crate::case::Case;
 use crate::code::{decode, Command, Op, Role};
-use crate::fault::Probe;
 use crate::rng::Rng;
 use crate::state::*;
 
@@ -90,7 +89,7 @@ impl Layout {
 /// The flags of a command for operand values, or `None` for DIV by zero.
 fn flags_of(known: &Command, first: u32, second: u32) -> Option<u32> {
     let size = known.operands[0].1;
-    arith::apply(&Probe::right(), known.op, first, second, size, 0).map(|(_, flags)| flags)
+    arith::apply(known.op, first, second, size).map(|(_, flags)| flags)
 }
 
 /// Flag outcomes that a command can have, each with operand values.

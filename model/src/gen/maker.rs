@@ -4,8 +4,7 @@
 use crate::asm::*;
 use crate::case::{make, Call, Case, Outcome, Ramp};
 use crate::entry;
-use crate::fault::Probe;
-use crate::memory::{lookup, word, Access, Real, Virtual};
+use crate::map::{lookup, word, Access, Real, Virtual};
 use crate::operand::Fields;
 use crate::rng::Rng;
 use crate::state::*;
@@ -86,7 +85,7 @@ impl Maker {
 
     /// Makes and keeps a call.
     pub fn call(&mut self, call: Call) -> Outcome {
-        let outcome = make(&mut Probe::right(), call, &self.state, &mut self.memory);
+        let outcome = make(call, &self.state, &mut self.memory);
         self.state = outcome.state;
         self.calls.push(call);
         self.last = Some(outcome);
@@ -95,7 +94,7 @@ impl Maker {
 
     /// A step of the desk that isn't kept as a call.
     pub fn silent_step(&mut self) -> Outcome {
-        let outcome = make(&mut Probe::right(), Call::Step, &self.state, &mut self.memory);
+        let outcome = make(Call::Step, &self.state, &mut self.memory);
         self.state = outcome.state;
         self.last = Some(outcome);
         outcome
@@ -127,8 +126,7 @@ impl Maker {
 
     /// The real place of a byte that may be read now.
     pub fn real(&self, address: u32) -> Option<u32> {
-        let probe = Probe::right();
-        let found = lookup(&probe, &self.state, &self.memory, Virtual(address), Access::Read);
+        let found = lookup(&self.state, &self.memory, Virtual(address), Access::Read);
         found.ok().map(|real| real.0)
     }
 
@@ -192,7 +190,7 @@ impl Maker {
         if self.state.stopped() {
             return;
         }
-        if let Some(level) = entry::interrupt(&Probe::right(), &self.state) {
+        if let Some(level) = entry::interrupt(&self.state) {
             self.decide(16 + level);
             return;
         }
@@ -205,7 +203,7 @@ impl Maker {
             let at = (self.state.system_block + 8 * cause + 4) as usize;
             memory[at..at + 4].copy_from_slice(&KERNEL.to_be_bytes());
         }
-        let outcome = make(&mut Probe::right(), Call::Step, &self.state, &mut memory);
+        let outcome = make(Call::Step, &self.state, &mut memory);
         if let Event::Entry { cause, .. } = outcome.event {
             self.decide(cause);
         }

@@ -7,7 +7,10 @@ pub mod layout;
 pub mod maker;
 pub mod orders;
 pub mod pick;
+pub mod places;
 pub mod refusals;
+pub mod resumes;
+pub mod rules;
 pub mod special;
 pub mod traps;
 pub mod walks;
@@ -44,13 +47,13 @@ pub fn all() -> Vec<(&'static str, Vec<Case>)> {
     vec![
         ("grid", grid::grid()),
         ("flags", grid::flags()),
-        ("rules", alarms::rules()),
-        ("unknown bytes", alarms::unknown()),
+        ("rules", rules::rules()),
+        ("unknown bytes", rules::unknown()),
         ("alarms", alarms::alarms()),
         ("kernel stops", alarms::kernel_stops()),
         ("orders", orders::orders()),
         ("interrupts", entries::interrupts()),
-        ("resume", entries::resumes()),
+        ("resume", resumes::resumes()),
         ("status bits", entries::status_bits()),
         ("system calls", entries::system_calls()),
         ("refusals", refusals::refusals()),

@@ -6,6 +6,7 @@
 //! map length, system block, control block, the number it is stopped with
 //! (FFFFFFFFh while it runs), four bytes each; the pending set, two bytes.
 
+pub mod acts;
 pub mod random;
 pub mod session;
 pub mod stream;

@@ -4,7 +4,6 @@ use super::*;
 use crate::case::{Call, Case};
 use crate::checks;
 use crate::desk;
-use crate::fault::Probe;
 
 pub struct Session {
     pub memory: Vec<u8>,
@@ -28,7 +27,7 @@ impl Session {
 
     /// Whether a step would be taken.
     pub fn ready(&self) -> bool {
-        checks::of_step(&mut Probe::right(), &self.state, &self.memory) == 0
+        checks::of_step(&self.state, &self.memory).is_ok()
     }
 
     /// Makes a call and keeps what it left.

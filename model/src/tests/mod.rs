@@ -2,6 +2,7 @@
 //! control block at 256, map at 384 with 8 writable pages in frames 4 to 11,
 //! kernel code at 512, system entry i leading to 600h + 8 × i.
 
+mod edits;
 mod forms;
 mod near;
 mod numbers;
@@ -74,7 +75,7 @@ impl Bench {
     }
 
     pub fn get(&self, real: u32) -> u32 {
-        crate::memory::word(&self.memory, crate::memory::Real(real))
+        crate::map::word(&self.memory, crate::map::Real(real))
     }
 
     /// Puts code at R15 (real, or in the user pages' frames).

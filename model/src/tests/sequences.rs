@@ -1,7 +1,6 @@
 //! Sequences: the 90 bytes of a state, and that they are the calls' own answers.
 
 use crate::case::play;
-use crate::fault::Probe;
 use crate::gen;
 use crate::rng::Rng;
 use crate::sequences::session::Session;
@@ -47,7 +46,7 @@ fn changes_lead_from_old_to_new() {
 #[test]
 fn a_case_as_a_sequence_says_the_same() {
     for case in gen::entries::interrupts().iter().chain(&gen::refusals::refusals()) {
-        let expected = play(&mut Probe::right(), case);
+        let expected = play(case);
         let sequence = Session::of_case("case", case).finish();
         let mut memory = sequence.memory.clone();
         for ((_, left), outcome) in sequence.acts.iter().zip(&expected.outcomes) {

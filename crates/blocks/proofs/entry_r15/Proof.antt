@@ -7,25 +7,23 @@ use Rattle.machine.proofs.Blocks.{block-word, no-word}
 use Rattle.blocks.proofs.entry_r15.Statement.{statement}
 use Rattle.blocks.proofs.entry_r15.Tie as tie
 
-cast-word : tie.Need-cast-word
-cast-word c = search needs
-
-mul-word : tie.Need-mul-word
-mul-word c = search needs
-
-add-word : tie.Need-add-word
-add-word c = search needs
-
-word-requires : tie.Need-word-requires
-word-requires c κs = search needs
-
 returns : tie.Need-returns
 returns c =
     let a = c .before .before .before .before .args in
     c .word .ensures ∙ sym (block-word (a .mem .now) (a .system .0) (8 * a .cause) (omega arith))
 
 returns-2 : tie.Need-returns-2
-returns-2 c = let a = c .before .before .args in sym (no-word (a .mem .now) (a .system .0) (8 * a .cause) (omega arith))
+returns-2 c =
+    let a = c .before .before .args in
+    sym (no-word (a .mem .now) (a .system .0) (8 * a .cause) (omega arith))
 
 pub entry-r15-spec : {M : Type 1} → statement M
-entry-r15-spec = tie.close (tie.spec cast-word mul-word add-word word-requires returns returns-2)
+entry-r15-spec =
+    tie.close
+    (tie.spec
+    (λ c. search needs)
+    (λ c. search needs)
+    (λ c. search needs)
+    (λ c κs. search needs)
+    returns
+    returns-2)

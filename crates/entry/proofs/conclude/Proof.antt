@@ -3,7 +3,7 @@ use borrow.Author.Needs.{needs}
 use Rattle.machine.specs.Steps.{halt}
 use Rattle.machine.specs.Map.{commit}
 use Rattle.entry.specs.Replies.{concludedEnd}
-use Rattle.entry.proofs.Ending.{resume-quiet}
+use Rattle.entry.proofs.Quiet.{resume-quiet}
 use Rattle.entry.proofs.conclude.Statement.{statement}
 use Rattle.entry.proofs.conclude.Tie as tie
 

@@ -1,161 +1,63 @@
--- `pack` is right: the bytes that are laid are those of the words that have passed; the pending set's two follow them.
-use Prim.Native.Nat.{ℕ, _≤_, _-_, _*_}
-use mathlib.Core.Path.{_≡_, refl, sym, _∙_}
-use mathlib.Core.List.{List, [], _∷_, _++_}
-use mathlib.Core.Logic.{⊎-elim}
+-- `pack` is right: registers, other words and the pending set's two bytes, one after the other, fill the row.
+use Prim.Native.Nat.{ℕ, suc, _+_, _/_, _%_}
+use mathlib.Core.Path.{_≡_, refl, _∙_}
+use mathlib.Core.List.{List, [], _∷_, _++_, append-nil}
+use native.Mathlib.Nat.{div-one}
 use native.Mathlib.Omega.{arith}
 use borrow.Author.Needs.{needs}
-use lib.ListN.{length, take, getD, length-set, length-append, List·getD-append}
-use lib.Seq.{take-all}
-use Rattle.machine.specs.Words.{bytesOfWords}
-use Rattle.machine.proofs.Blocks.{word-laid}
+use lib.ListN.{length, set, length-append}
+use lib.Seq.{sets, sets-eq, drop-length}
+use Rattle.machine.specs.Words.{bytesOf, bytesOfWords}
+use Rattle.machine.specs.Map.{commit, realWritesFrom}
+use Rattle.machine.proofs.Blocks.{words-append, words-length}
+use Rattle.machine.proofs.Writes.{commit-from}
 use Rattle.layout.specs.Layout.{wordsOf, packed}
-use Rattle.layout.proofs.Row.{second-at, pair-laid}
 use Rattle.layout.proofs.pack.Statement.{statement}
 use Rattle.layout.proofs.pack.Tie as tie
 
-abbrev Inv-loop : tie.InvT-loop
-Inv-loop d registers rest b₀ i₀ b i = (i ≤ 22) × (length b ≡ 90) × (take (4 * i) b ≡ bytesOfWords (take i (registers ++ rest)))
+sets-append : (xs ys l : List ℕ) (i n : ℕ) → i + length xs ≡ n → sets (sets l i xs) n ys ≡ sets l i (xs ++ ys)
+sets-append [] ys l i n e = let f : n ≡ i = omega arith in rw f
+sets-append (x ∷ xs) ys l i n e = sets-append xs ys (set l i x) (suc i) n (omega arith)
 
-abbrev μ-loop : tie.MeasureT-loop
-μ-loop d registers rest b₀ i₀ b i = 22 - i
+row : (rs ws vs b : List ℕ) → length rs ≡ 16 → length ws ≡ 6 → length vs ≡ 2 → length b ≡ 90
+    → sets (commit (realWritesFrom 64 (bytesOfWords ws)) (commit (realWritesFrom 0 (bytesOfWords rs)) b)) 88 vs
+    ≡ bytesOfWords (rs ++ ws) ++ vs
+row rs ws vs b k l m n =
+    let words : List ℕ = bytesOfWords (rs ++ ws) in
+    let r : length (bytesOfWords rs) ≡ 64 = omega (arith, words-length rs) in
+    let w : length words ≡ 88 = words-length (rs ++ ws) ∙ simp length-append (omega arith) in
+    let all : List ℕ = words ++ vs in
+    let whole : 0 + length all ≡ length b = simp length-append (omega arith) in
+    rw (commit-from, commit-from, sets-append (bytesOfWords rs) _ b 0 64 (omega arith), ← words-append)
+    (sets-append words vs b 0 88 (omega arith) ∙ sets-eq all b 0 (omega arith) ∙ rw (whole, drop-length, append-nil))
 
-mark-word-requires : tie.Need-mark-word-requires Inv-loop μ-loop
-mark-word-requires c κs = search needs
+sixteen : (c : tie.Start) → length (c .args .d .registers) ≡ 16
+sixteen c = search needs
 
-loop-holds : tie.Need-loop-holds Inv-loop μ-loop
-loop-holds c = (omega arith, refl, (unfold bytesOfWords in refl))
-
-mul-w : tie.Need-mul-w Inv-loop μ-loop
-mul-w c = search needs
-
-array-read-w : tie.Need-array-read-w Inv-loop μ-loop
-array-read-w c = search needs
-
-mul-w-2 : tie.Need-mul-w-2 Inv-loop μ-loop
-mul-w-2 c = search needs
-
-array-read-w-2 : tie.Need-array-read-w-2 Inv-loop μ-loop
-array-read-w-2 c = search needs
-
-cast-b : tie.Need-cast-b Inv-loop μ-loop
-cast-b c = search needs
-
-mul-b : tie.Need-mul-b Inv-loop μ-loop
-mul-b c = search needs
-
-array-write-b : tie.Need-array-write-b Inv-loop μ-loop
-array-write-b c = search needs
-
-cast-b-2 : tie.Need-cast-b-2 Inv-loop μ-loop
-cast-b-2 c = search needs
-
-mul-b-2 : tie.Need-mul-b-2 Inv-loop μ-loop
-mul-b-2 c = search needs
-
-add-b : tie.Need-add-b Inv-loop μ-loop
-add-b c = search needs
-
-array-write-b-2 : tie.Need-array-write-b-2 Inv-loop μ-loop
-array-write-b-2 c = search needs
-
-cast-b-3 : tie.Need-cast-b-3 Inv-loop μ-loop
-cast-b-3 c = search needs
-
-mul-b-3 : tie.Need-mul-b-3 Inv-loop μ-loop
-mul-b-3 c = search needs
-
-add-b-2 : tie.Need-add-b-2 Inv-loop μ-loop
-add-b-2 c = search needs
-
-array-write-b-3 : tie.Need-array-write-b-3 Inv-loop μ-loop
-array-write-b-3 c = search needs
-
-cast-b-4 : tie.Need-cast-b-4 Inv-loop μ-loop
-cast-b-4 c = search needs
-
-mul-b-4 : tie.Need-mul-b-4 Inv-loop μ-loop
-mul-b-4 c = search needs
-
-add-b-3 : tie.Need-add-b-3 Inv-loop μ-loop
-add-b-3 c = search needs
-
-array-write-b-4 : tie.Need-array-write-b-4 Inv-loop μ-loop
-array-write-b-4 c = search needs
-
-add-i : tie.Need-add-i Inv-loop μ-loop
-add-i c = search needs
-
-loop-less : tie.Need-loop-less Inv-loop μ-loop
-loop-less c = search needs
-
-loop-again : tie.Need-loop-again Inv-loop μ-loop
-loop-again c =
-    let turn = c .before .before .before .loop in
-    let d = c .before .before .before .before .before .before .before .before .before .args .d in
-    let l : length (d .registers) ≡ 16 = search needs in
-    let rest : List ℕ = d .status ∷ d .base .0 ∷ d .entries ∷ d .system .0 ∷ d .control .0 ∷ c .before .before .before .before .mark-word .result ∷ [] in
-    let w : getD (d .registers ++ rest) (turn .i) 0 ≡ c .before .if1 .w = ⊎-elim (λ z. List·getD-append (d .registers) rest 0 (turn .i) (omega arith) ∙ sym (z .1)) (λ z. second-at (d .registers) rest 16 (turn .i) l (omega arith) ∙ sym (z .1)) (c .before .if1 .came) in (
-      omega arith,
-      simp length-set (turn .inv .1),
-      word-laid (turn .b) (d .registers ++ rest) (turn .i) (c .before .if1 .w) (omega arith) (simp length-append (omega arith)) w (turn .inv .2),
-    )
-
-cast-b-5 : tie.Need-cast-b-5 Inv-loop μ-loop
-cast-b-5 c = search needs
-
-array-write-b-5 : tie.Need-array-write-b-5 Inv-loop μ-loop
-array-write-b-5 c = search needs
-
-cast-b-6 : tie.Need-cast-b-6 Inv-loop μ-loop
-cast-b-6 c = search needs
-
-array-write-b-6 : tie.Need-array-write-b-6 Inv-loop μ-loop
-array-write-b-6 c = search needs
-
-returns : tie.Need-returns Inv-loop μ-loop
-unfolding packed wordsOf
+returns : tie.Need-returns
+unfolding packed wordsOf bytesOf
 returns c =
-    let turn = c .before .before .before .loop in
-    let mark = c .before .before .before .before .mark-word in
-    let d = c .before .before .before .before .before .before .before .before .before .args .d in
-    let l : length (d .registers) ≡ 16 = search needs in
-    let all : turn .i ≡ 22 = omega arith in
-    let whole : take 22 (wordsOf d) ≡ wordsOf d = take-all 22 (wordsOf d) (simp length-append (omega arith)) in
-    pair-laid (turn .b) (bytesOfWords (wordsOf d)) (d .pending) (turn .inv .1) (rw (all, mark .ensures, whole) at (turn .inv .2))
+    let second = c .before .before .before in
+    let first = second .before .before .before .before in
+    let mark = first .before .before .before in
+    let start = mark .before .before .before .before .before .before in
+    let p = start .args .d .pending in
+    rw (second .put-words2 .ensures, first .put-words .ensures, mark .mark-word .ensures, div-one p)
+    (row _ _ (p / 256 % 256 ∷ p % 256 ∷ []) _ (sixteen start) refl refl refl)
 
 pub pack-spec : {M : Type 1} → statement M
 pack-spec =
     tie.close
     (tie.spec
-    Inv-loop
-    μ-loop
-    mark-word-requires
-    loop-holds
-    mul-w
-    array-read-w
-    mul-w-2
-    array-read-w-2
-    cast-b
-    mul-b
-    array-write-b
-    cast-b-2
-    mul-b-2
-    add-b
-    array-write-b-2
-    cast-b-3
-    mul-b-3
-    add-b-2
-    array-write-b-3
-    cast-b-4
-    mul-b-4
-    add-b-3
-    array-write-b-4
-    add-i
-    loop-less
-    loop-again
-    cast-b-5
-    array-write-b-5
-    cast-b-6
-    array-write-b-6
+    (λ c κs. search needs)
+    (λ c. search needs)
+    (λ c. search needs)
+    (λ c κs. omega (arith, sixteen (c .before .before .before .before .before .before .before .before)))
+    (λ c. search needs)
+    (λ c. search needs)
+    (λ c κs. search needs)
+    (λ c. search needs)
+    (λ c. search needs)
+    (λ c. search needs)
+    (λ c. search needs)
     returns)

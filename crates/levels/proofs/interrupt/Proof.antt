@@ -3,15 +3,12 @@ use mathlib.Core.Path.{sym}
 use borrow.Author.Tests.{lt-ltb, le-ltb}
 use borrow.Author.Needs.{needs}
 use Rattle.levels.specs.Due.{interruptOf}
-use Rattle.levels.proofs.Due.{none-pending}
+use Rattle.levels.proofs.Pending.{none-pending}
 use Rattle.levels.proofs.interrupt.Statement.{statement}
 use Rattle.levels.proofs.interrupt.Tie as tie
 
 returns : tie.Need-returns
 returns c = (rw (c .if1 .taken) (sym (none-pending _)), search needs)
-
-due-requires : tie.Need-due-requires
-due-requires c κs = search needs
 
 returns-2 : tie.Need-returns-2
 unfolding interruptOf
@@ -22,4 +19,10 @@ unfolding interruptOf
 returns-3 c = (rw (le-ltb _ _ (c .if2 .left)), search needs)
 
 pub interrupt-spec : {M : Type 1} → statement M
-interrupt-spec = tie.close (tie.spec returns due-requires returns-2 returns-3)
+interrupt-spec =
+    tie.close
+    (tie.spec
+    returns
+    (λ c κs. search needs)
+    returns-2
+    returns-3)

@@ -1,4 +1,4 @@
--- `with_level` is right: A level that is pending stays so; else its bit is added, which carries nothing over, so the sum fits.
+-- `with_level` is right: a pending level stays so; else its bit is added, which carries nothing over, so the sum fits.
 use Prim.Native.Nat.{ℕ, _+_, _*_, _%_, _^_, _≤_, _<_}
 use mathlib.Core.Path.{_≡_, _∙_}
 use native.Mathlib.Nat.{one-mul}
@@ -16,28 +16,25 @@ shifted k h = shl-exact 1 k 32 (omega arith) (omega arith) ∙ one-mul _
 
 fits : (c : tie.Else1) → c .before .args .pending + (1 * 2 ^ c .before .args .level) % 2 ^ 32 < 2 ^ 16
 fits c =
-    let a = c .before in
-    rw (shifted (a .args .level) (a .pre)) (level-fits 16 (a .args .level) (a .args .pending) (omega arith) (a .fits .pending .fits) (c .if1 .left))
-
-shl-bit : tie.Need-shl-bit
-shl-bit c = search needs
-
-shr-if1 : tie.Need-shr-if1
-shr-if1 c = search needs
+    let s = c .before in
+    let k = s .args .level in
+    rw (shifted k (s .pre)) (level-fits 16 k (s .args .pending) (omega arith) (s .fits .pending .fits) (c .if1 .left))
 
 returns : tie.Need-returns
 unfolding withLevel isPending
 returns c = simp (eq-eqb _ _ (c .if1 .taken))
-
-add-result : tie.Need-add-result
-add-result c = omega (arith, fits c)
-
-cast-result : tie.Need-cast-result
-cast-result c = omega (arith, fits c)
 
 returns-2 : tie.Need-returns-2
 unfolding withLevel isPending
 returns-2 c = simp (ne-eqb _ _ (c .if1 .left), shifted (c .before .args .level) (c .before .pre))
 
 pub with-level-spec : {M : Type 1} → statement M
-with-level-spec = tie.close (tie.spec shl-bit shr-if1 returns add-result cast-result returns-2)
+with-level-spec =
+    tie.close
+    (tie.spec
+    (λ c. search needs)
+    (λ c. search needs)
+    returns
+    (λ c. omega (arith, fits c))
+    (λ c. omega (arith, fits c))
+    returns-2)

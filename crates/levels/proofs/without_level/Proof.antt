@@ -4,18 +4,15 @@ use Rattle.machine.specs.State.{withoutLevel}
 use Rattle.levels.proofs.without_level.Statement.{statement}
 use Rattle.levels.proofs.without_level.Tie as tie
 
-cast-result : tie.Need-cast-result
-cast-result c = search needs
-
-shl-result : tie.Need-shl-result
-shl-result c = search needs
-
-sub-result : tie.Need-sub-result
-sub-result c = search needs
-
 returns : tie.Need-returns
 unfolding withoutLevel
 returns c = search needs
 
 pub without-level-spec : {M : Type 1} → statement M
-without-level-spec = tie.close (tie.spec cast-result shl-result sub-result returns)
+without-level-spec =
+    tie.close
+    (tie.spec
+    (λ c. search needs)
+    (λ c. search needs)
+    (λ c. search needs)
+    returns)

@@ -7,7 +7,7 @@ use borrow.Author.Needs.{needs}
 use Rattle.machine.specs.State.{isRunning}
 use Rattle.machine.specs.Calls.{stepsOf}
 use Rattle.levels.specs.Due.{interruptOf}
-use Rattle.levels.proofs.Due.{level-pending}
+use Rattle.levels.proofs.Pending.{level-pending}
 use Rattle.runs.proofs.Runs.{blocks, map-fits, going, Midway, After, start, go-on, stopped, finished, after-level, after-command, after-quiet}
 use Rattle.runs.proofs.steps.Statement.{statement}
 use Rattle.runs.proofs.steps.Tie as tie

@@ -1,0 +1,145 @@
+// A case, played on the desk.
+use cases::answers::Checked;
+use cases::answers::check_memory;
+use cases::answers::check_reply;
+use cases::answers::check_run;
+use cases::answers::check_step;
+use cases::difference::Difference;
+use cases::difference::Verdict;
+use cases::fields::byte_at;
+use cases::fields::half_at;
+use cases::fields::past;
+use cases::fields::word_at;
+use cases::memory::fill;
+use cases::state::Words;
+use cases::state::changed;
+use cases::state::desk_of;
+use cases::state::no_words;
+use machine::RealAddress;
+use machine::VirtualAddress;
+
+// What became of a case.
+pub enum Outcome {
+    Equal,
+    Differs(Verdict),
+    LeftOut,
+    // The input ends before the case does.
+    Cut,
+}
+
+// The first difference of the calls, and the position after their fields.
+struct Played {
+    verdict: Verdict,
+    at: usize,
+}
+
+fn step(s: &[u8], at: usize, before: Words, mem: &mut [u8]) -> Checked {
+    let reply = desk::step(desk_of(before), mem);
+    check_step(s, at, before, reply, mem)
+}
+
+// u32 n.
+fn run(s: &[u8], at: usize, before: Words, mem: &mut [u8]) -> Checked {
+    let n = word_at(s, at) as u64;
+    let reply = desk::run(desk_of(before), mem, n);
+    check_run(s, past(s, at, 4), before, reply)
+}
+
+// u32 level.
+fn request(s: &[u8], at: usize, before: Words) -> Checked {
+    let level = word_at(s, at);
+    let reply = desk::request(desk_of(before), level);
+    check_reply(s, past(s, at, 4), before, reply)
+}
+
+// u32 system block, u32 control block, u32 start.
+fn fresh(s: &[u8], at: usize, before: Words, mem: &[u8]) -> Checked {
+    let system = RealAddress(word_at(s, at));
+    let control = RealAddress(word_at(s, past(s, at, 4)));
+    let start = VirtualAddress(word_at(s, past(s, at, 8)));
+    let reply = desk::fresh(mem, system, control, start);
+    check_reply(s, past(s, at, 12), before, reply)
+}
+
+// u8 kind, and the fields of that kind.
+fn check_call(s: &[u8], at: usize, before: Words, mem: &mut [u8]) -> Checked {
+    let kind = byte_at(s, at);
+    let body = past(s, at, 1);
+    match kind {
+        0 => step(s, body, before, mem),
+        1 => run(s, body, before, mem),
+        2 => request(s, body, before),
+        3 => fresh(s, body, before, mem),
+        _ => Checked {
+            what: Difference::Format,
+            words: before,
+            at: body,
+        },
+    }
+}
+
+// u16 number of calls, and the calls, made in order up to the first difference.
+fn play_calls(s: &[u8], from: usize, start: Words, mem: &mut [u8]) -> Played {
+    let calls = half_at(s, from) as u64;
+    let mut words = start;
+    let mut at = past(s, from, 2);
+    let mut call: u64 = 0;
+    while call < calls && at < s.len() {
+        let checked = check_call(s, at, words, mem);
+        let what = checked.what;
+        words = checked.words;
+        at = checked.at;
+        call += 1;
+        if !what.is_nothing() {
+            return Played {
+                verdict: Verdict { what, call },
+                at,
+            };
+        }
+    }
+    Played {
+        verdict: Verdict {
+            what: Difference::Nothing,
+            call: 0,
+        },
+        at,
+    }
+}
+
+// Plays a case on mem. Both mem and model have the case's length and hold zeros.
+fn play_on(s: &[u8], mem: &mut [u8], model: &mut [u8]) -> Verdict {
+    let image = fill(mem, s, 4);
+    fill(model, s, 4);
+    let start = changed(s, image, no_words());
+    let words = start.words;
+    let played = play_calls(s, start.at, words, mem);
+    let verdict = played.verdict;
+    let what = verdict.what;
+    if !what.is_nothing() {
+        return verdict;
+    }
+    let last = check_memory(s, played.at, mem, model);
+    Verdict {
+        what: last,
+        call: 0,
+    }
+}
+
+fn outcome_of(verdict: Verdict) -> Outcome {
+    let what = verdict.what;
+    if what.is_nothing() {
+        return Outcome::Equal;
+    }
+    Outcome::Differs(verdict)
+}
+
+// The memories have room for 65,536 bytes.
+pub fn play_case(s: &[u8]) -> Outcome {
+    let length = word_at(s, 0) as usize;
+    if 65536 < length {
+        return Outcome::LeftOut;
+    }
+    let mut mem = io::large_buffer();
+    let mut model = io::large_buffer();
+    outcome_of(play_on(s, &mut mem[..length], &mut model[..length]))
+}

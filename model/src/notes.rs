@@ -1,0 +1,55 @@
+//! Remarks of the model for the coverage table; they change nothing.
+
+use crate::code::Role;
+use crate::work::Part;
+
+#[derive(Clone, Copy, PartialEq, Eq, Debug)]
+pub enum Note {
+    /// A command byte was fetched.
+    Command(u8),
+    /// An operand was fetched: its fields, role, L, and the broken rule if any.
+    Operand {
+        form: u8,
+        x: u8,
+        y: u8,
+        role: Role,
+        size: u32,
+        broken: Option<&'static str>,
+    },
+    Alarm {
+        number: u32,
+        part: Part,
+    },
+    /// Bytes in two pages were read or written without an alarm.
+    Crossing(Part),
+    /// RESUME was tried: "good", or why not.
+    Resume(&'static str),
+    /// An entry's status was refused.
+    BadEntry {
+        cause: u32,
+        reason: &'static str,
+    },
+}
+
+/// Collects remarks, or drops them.
+pub struct Notes(Option<Vec<Note>>);
+
+impl Notes {
+    pub fn none() -> Notes {
+        Notes(None)
+    }
+
+    pub fn kept() -> Notes {
+        Notes(Some(Vec::new()))
+    }
+
+    pub fn add(&mut self, note: Note) {
+        if let Some(list) = &mut self.0 {
+            list.push(note);
+        }
+    }
+
+    pub fn list(&self) -> &[Note] {
+        self.0.as_deref().unwrap_or(&[])
+    }
+}
