@@ -2,6 +2,7 @@
 ghost use mathlib.Core.Path.{_≡_};
 ghost use Prim.Native.Nat.{_+_, _^_, _≤_};
 ghost use Rattle.entry.specs.Replies.{Blocks, ResumesInKernelMode, alarmedBy, concludedEnd, enteredBy, replyOf, stepped};
+ghost use Rattle.machine.specs.Alarms.{alarmNumber};
 ghost use Rattle.machine.specs.State.{deskWith, withoutLevel};
 ghost use Rattle.machine.specs.Steps.{enters, resume as resumeOf, stop as stopOf};
 ghost use Rattle.results.specs.Ends.{outAs};
@@ -24,6 +25,13 @@ fn stop(d: Desk, n: u32) -> StepReply
         answer: StepAnswer::Stopped(n),
         desk,
     }
+}
+
+// With the number of an alarm.
+fn stop_for(d: Desk, a: Alarm) -> StepReply
+    ensures { λ r. ⌜ r ≡ replyOf (stopOf (alarmNumber a) d) ⌝ }
+{
+    stop(d, a.number())
 }
 
 // A kernel entry: its cause, the registers to save, its argument and the pending set left. A stop with 16 where the system block's entry holds no valid kernel status.
@@ -64,7 +72,7 @@ fn resume(d: Desk, mem: &[u8], a: RealAddress) -> StepReply
     let n = mem.len();
     let fits = checks::block_fits(a, machine::CONTROL_BLOCK_BYTES, n);
     if !fits {
-        return stop(d, Alarm::Operand.number());
+        return stop_for(d, Alarm::Operand);
     }
     let at = a.0 as usize;
     let map = Map {
@@ -73,12 +81,12 @@ fn resume(d: Desk, mem: &[u8], a: RealAddress) -> StepReply
     };
     let map_fits = checks::map_fits(map, n);
     if !map_fits {
-        return stop(d, Alarm::Operand.number());
+        return stop_for(d, Alarm::Operand);
     }
     let status = words::word(mem, at + 64);
     let valid = checks::is_valid_user(status);
     if !valid {
-        return stop(d, Alarm::Operand.number());
+        return stop_for(d, Alarm::Operand);
     }
     let registers = words::sixteen(mem, at);
     let desk = d.resumed(registers, status, map, a);
@@ -97,7 +105,7 @@ fn alarm(d: Desk, mem: &mut [u8], a: Alarm, x: u32) -> StepReply
         let registers = d.registers;
         return enter(d, mem, a.cause(), registers, x, d.pending);
     }
-    stop(d, a.number())
+    stop_for(d, a)
 }
 
 // A command that ended quietly changes registers and status.

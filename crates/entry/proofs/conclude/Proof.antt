@@ -7,6 +7,12 @@ use Rattle.entry.proofs.Quiet.{resume-quiet}
 use Rattle.entry.proofs.conclude.Statement.{statement}
 use Rattle.entry.proofs.conclude.Tie as tie
 
+-- a command that resumes ran in kernel mode
+real-requires : tie.Need-real-requires
+real-requires c κs =
+    let told = c .before .before in
+    rw (told .out3 .given .1) at (told .before .before .before .pre .1)
+
 returns : tie.Need-returns
 unfolding concludedEnd
 returns c = simp (c .before .before .out .given .1, c .done .ensures)
@@ -38,7 +44,7 @@ conclude-spec =
     (λ c. search needs)
     (λ c κs. search needs)
     (λ c. search needs)
-    (λ c κs. search needs)
+    real-requires
     (λ c κs. search needs)
     (λ c. search needs)
     (λ c κs. search needs)

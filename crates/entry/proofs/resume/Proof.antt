@@ -20,7 +20,7 @@ inside c = block-inside _ _ _ (fits c)
 
 returns : tie.Need-returns
 unfolding resume
-returns c = simp (c .stop .ensures, fails (c .before .before .block-fits .ensures) (c .before .if1 .taken))
+returns c = simp (c .stop-for .ensures, fails (c .before .before .block-fits .ensures) (c .before .if1 .taken))
 
 word-requires : tie.Need-word-requires
 word-requires c κs = omega (arith, inside (c .before))
@@ -33,7 +33,7 @@ unfolding resume
 returns-2 c =
     let m = c .before .before in
     let w = m .before in
-    simp (c .stop2 .ensures, ← w .before .word .ensures, ← w .word2 .ensures, fits (w .before .before .before), fails (m .block-fits2 .ensures) (c .before .if2 .taken))
+    simp (c .stop-for2 .ensures, ← w .before .word .ensures, ← w .word2 .ensures, fits (w .before .before .before), fails (m .map-fits .ensures) (c .before .if2 .taken))
 
 word-requires-3 : tie.Need-word-requires-3
 word-requires-3 c κs = omega (arith, inside (c .before .before .before .before .before))
@@ -44,10 +44,10 @@ returns-3 c =
     let v = c .before .before in
     let e = v .before .before in
     let w = e .before .before in
-    simp (c .stop3 .ensures, ← w .before .word .ensures, ← w .word2 .ensures, ← v .before .word3 .ensures, fits (w .before .before .before), holds (e .before .block-fits2 .ensures) (e .if2 .left), fails (v .is-valid-user .ensures) (c .before .if3 .taken))
+    simp (c .stop-for3 .ensures, ← w .before .word .ensures, ← w .word2 .ensures, ← v .before .word3 .ensures, fits (w .before .before .before), holds (e .before .map-fits .ensures) (e .if2 .left), fails (v .is-valid-user .ensures) (c .before .if3 .taken))
 
-load-requires : tie.Need-load-requires
-load-requires c κs = omega (arith, inside (c .before .before .before .before .before .before .before .before))
+sixteen-requires : tie.Need-sixteen-requires
+sixteen-requires c κs = omega (arith, inside (c .before .before .before .before .before .before .before .before))
 
 returns-4 : tie.Need-returns-4
 unfolding resume
@@ -55,7 +55,7 @@ returns-4 c =
     let v = c .before .before .before in
     let e = v .before .before in
     let w = e .before .before in
-    simp (c .before .load .ensures, ← w .before .word .ensures, ← w .word2 .ensures, ← v .before .word3 .ensures, fits (w .before .before .before), holds (e .before .block-fits2 .ensures) (e .if2 .left), holds (v .is-valid-user .ensures) (c .before .before .if3 .left))
+    simp (c .resumed .ensures, c .before .sixteen .ensures, ← w .before .word .ensures, ← w .word2 .ensures, ← v .before .word3 .ensures, fits (w .before .before .before), holds (e .before .map-fits .ensures) (e .if2 .left), holds (v .is-valid-user .ensures) (c .before .before .if3 .left))
 
 pub resume-spec : {M : Type 1} → statement M
 resume-spec =
@@ -69,8 +69,6 @@ resume-spec =
     word-requires
     (λ c. search needs)
     word-requires-2
-    (λ c. search needs)
-    (λ c. search needs)
     (λ c κs. search needs)
     (λ c κs. search needs)
     returns-2
@@ -79,5 +77,6 @@ resume-spec =
     (λ c κs. search needs)
     (λ c κs. search needs)
     returns-3
-    load-requires
+    sixteen-requires
+    (λ c κs. search needs)
     returns-4)
