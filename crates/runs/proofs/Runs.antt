@@ -36,29 +36,10 @@ module _ (d : Desk) (m : Memory) (n : ℕ) (same : length m ≡ n) (p : Passes d
 
   pub map-fits : Fits (d .map) m
   map-fits = record {
-    map = rw same (block-inside (d .base) _ n (p .map));
+    inside = rw same (block-inside (d .map .base) _ n (p .map));
     small = rw same (length-small n (p .length));
     whole = rw same (length-whole n (p .length));
   }
-
--- ---- A step and a run that are refused, and those that are not
-
-module _ (d : Desk) (m : Memory) where
-  pub refused-step : (k : Refusal) → stepRefusal d (length m) ≡ Refused k → stepped (record { answer = stepAnswer.Refused k; desk = d }) m ≡ stepOf d m
-  unfolding stepOf stepOutcome unlessRefused unchanged commit
-  refused-step k e = rw e
-
-  pub accepted-step : stepRefusal d (length m) ≡ Accepted → shown (oneStep d m) m ≡ stepOf d m
-  unfolding stepOf stepOutcome unlessRefused
-  accepted-step e = rw e
-
-  pub refused-run : (n : ℕ) (k : Refusal) → stepRefusal d (length m) ≡ Refused k → ran (Refused k) 0 d m ≡ runOf n d m
-  unfolding runOf runUnless
-  refused-run n k e = rw e
-
-  pub accepted-run : (n : ℕ) → stepRefusal d (length m) ≡ Accepted → stepsOf n 0 d m ≡ runOf n d m
-  unfolding runOf runUnless
-  accepted-run n e = rw e
 
 -- ---- A desk with registers and status in locals
 

@@ -5,6 +5,7 @@ ghost use Rattle.entry.specs.Replies.{shown, steppedTo};
 ghost use Rattle.machine.specs.Calls.{ran, stepRefusal, stepsOf};
 ghost use Rattle.machine.specs.State.{deskWith};
 ghost use Rattle.machine.specs.Steps.{oneStep};
+use machine::Answer;
 use machine::Desk;
 use machine::Mark;
 use machine::StepAnswer;

@@ -1,7 +1,7 @@
 -- `run` is right: the refusals decide, and then the steps are made.
 use mathlib.Core.Path.{sym, _∙_}
 use borrow.Author.Needs.{needs}
-use Rattle.runs.proofs.Runs.{refused-run, accepted-run}
+use Rattle.desk.proofs.Refused.{refused-run, accepted-run}
 use Rattle.desk.proofs.run.Statement.{statement}
 use Rattle.desk.proofs.run.Tie as tie
 

@@ -1,7 +1,7 @@
 -- `step` is right: the refusals decide, and then one step is made.
 use mathlib.Core.Path.{refl, sym, _∙_}
 use borrow.Author.Needs.{needs}
-use Rattle.runs.proofs.Runs.{refused-step, accepted-step}
+use Rattle.desk.proofs.Refused.{refused-step, accepted-step}
 use Rattle.desk.proofs.step.Statement.{statement}
 use Rattle.desk.proofs.step.Tie as tie
 

@@ -8,6 +8,7 @@ use Rattle.machine.specs.State.{isRunning}
 use Rattle.machine.specs.Calls.{stepsOf}
 use Rattle.levels.specs.Due.{interruptOf}
 use Rattle.levels.proofs.Pending.{level-pending}
+use Rattle.runs.proofs.Ending.{resumes-in-kernel-mode}
 use Rattle.runs.proofs.Runs.{blocks, map-fits, going, Midway, After, start, go-on, stopped, finished, after-level, after-command, after-quiet}
 use Rattle.runs.proofs.steps.Statement.{statement}
 use Rattle.runs.proofs.steps.Tie as tie
@@ -43,7 +44,9 @@ loop-again c =
 conclude-requires : tie.Need-conclude-requires Inv-loop μ-loop
 conclude-requires c κs =
     let x = c .before .before .before .before .before in
-    rw (c .before .running2 .ensures) (blocks _ _ _ (x .exec .kept .0) (x .before .before .before .before .before .before .before .before .loop .inv .1 .passes))
+    let l = x .before .before .before .before .before .before .before .before .loop in
+    rw (c .before .running2 .ensures)
+    (blocks _ _ _ (x .exec .kept .0) (l .inv .1 .passes), resumes-in-kernel-mode _ _ _ _ (x .exec .result) _ _ (x .exec .ensures))
 
 -- after an interrupt, or a command that did not end quietly
 turn : (c : tie.Joined1 Inv-loop μ-loop)
