@@ -5,7 +5,7 @@ use Rattle.machine.specs.declared.StepAnswer.{StepAnswer}
 use Rattle.machine.specs.declared.StepAnswer.the-variants as stepAnswer
 use Rattle.machine.specs.declared.Reply.{Reply}
 use Rattle.machine.specs.Words.{Memory}
-use Rattle.machine.specs.Calls.{refusalNumber, answerNumber, freshOf, Stepped, stepOf, requestOf, Ran, runOf}
+use Rattle.machine.specs.Calls.{answerNumber, freshOf, stepAnswerNumber, Stepped, stepOf, requestOf, Ran, runOf}
 use Rattle.layout.specs.Layout.{packed, unpacked}
 
 -- A call that leaves the memory alone: its answer is the number of its refusal, 0 where it was carried out
@@ -24,16 +24,20 @@ freshCall n system control start = repliedOf (freshOf n (record { 0 = system }) 
 unfoldable pub requestCall : List ℕ → ℕ → Replied
 requestCall state level = repliedOf (requestOf (unpacked state) level)
 
--- A step answers with a kind, times 2^32, and a number: 0 a command done, 1 refused with its number, 2 a kernel entry with its cause, 3 a stop with its number
+-- A step answers with a kind, times 2^32, and the number of its answer
 
 abbrev pub kindTimes : ℕ → ℕ
 kindTimes k = k * 0x1_0000_0000
 
+-- which case the answer is
+abbrev pub stepKind : StepAnswer → ℕ
+stepKind stepAnswer.Done = 0
+stepKind (stepAnswer.Refused k) = 1
+stepKind (stepAnswer.Entered i) = 2
+stepKind (stepAnswer.Stopped n) = 3
+
 unfoldable pub stepCode : StepAnswer → ℕ
-stepCode stepAnswer.Done = 0
-stepCode (stepAnswer.Refused k) = kindTimes 1 + refusalNumber k
-stepCode (stepAnswer.Entered i) = kindTimes 2 + i
-stepCode (stepAnswer.Stopped n) = kindTimes 3 + n
+stepCode a = kindTimes (stepKind a) + stepAnswerNumber a
 
 pub record StepLeft : Type 0 where
   pub answer : ℕ

@@ -1,0 +1,29 @@
+-- A refused call leaves every byte of the state, and the memory, as they were.
+use Prim.Native.Nat.{ℕ, _<_}
+use mathlib.Core.Path.{_≡_, refl}
+use mathlib.Core.List.{List}
+use lib.ListN.{length}
+use Rattle.machine.specs.declared.Refusal.{Refusal}
+use Rattle.machine.specs.declared.Answer.the-variants.{Refused}
+use Rattle.machine.specs.Words.{Memory, byteAt}
+use Rattle.machine.specs.Calls.{stepRefusal, requestRefusal, unchanged, unlessRefused, requestOutcome, requestOf}
+use Rattle.desk.proofs.Refused as turns
+use Rattle.layout.specs.Layout.{stateBytes, packed, unpacked}
+use Rattle.layout.proofs.RoundTrip.{packed-unpacked}
+use Rattle.midesk.specs.Exports.{repliedOf, requestCall, stepLeft, stepCall, runLeft, runCall}
+
+module _ (b : List ℕ) (l : length b ≡ stateBytes) (small : (i : ℕ) → byteAt b i < 256) where
+  -- a refused step leaves the state's bytes and the memory
+  pub refused-step : (m : Memory) (k : Refusal) → stepRefusal (unpacked b) (length m) ≡ Refused k → ((stepCall b m) .state ≡ b) × ((stepCall b m) .memory ≡ m)
+  unfolding stepCall stepLeft
+  refused-step m k e = rw (← turns.refused-step (unpacked b) m k e) (packed-unpacked b l small, refl)
+
+  -- a refused run leaves them too
+  pub refused-run : (n : ℕ) (m : Memory) (k : Refusal) → stepRefusal (unpacked b) (length m) ≡ Refused k → ((runCall n b m) .state ≡ b) × ((runCall n b m) .memory ≡ m)
+  unfolding runCall runLeft
+  refused-run n m k e = rw (← turns.refused-run (unpacked b) m n k e) (packed-unpacked b l small, refl)
+
+  -- a refused request leaves the state's bytes
+  pub refused-request : (level : ℕ) (k : Refusal) → requestRefusal (unpacked b) level ≡ Refused k → (requestCall b level) .state ≡ b
+  unfolding requestCall repliedOf requestOf requestOutcome unlessRefused unchanged
+  refused-request level k e = rw e (packed-unpacked b l small)
