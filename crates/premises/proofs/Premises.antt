@@ -11,6 +11,7 @@ use lib.Dec.{ltb, leb, eqb}
 use lib.ListN.{length, replicate, set, length-set}
 use lib.Seq.{getD-set-other}
 use Rattle.machine.specs.declared.Desk.{Desk}
+use Rattle.machine.specs.declared.Map.{Map}
 use Rattle.machine.specs.declared.Mark.the-variants.{Running}
 use Rattle.machine.specs.Words.{Memory, byteAt}
 use Rattle.machine.specs.State.{reg, userMode, frameAround, savedBytes}
@@ -22,13 +23,17 @@ use Rattle.machine.proofs.WholeStep.{wholeStep}
 
 -- ---- The desks and the memories
 
--- system block at 0, control block at 256, a map of four entries at 512; status and R15 are given
+-- four entries at 512
+abbrev fourPages : Map
+fourPages = record { base = record { 0 = 512 }; length = 4 }
+
+-- system block at 0, control block at 256, that map; status and R15 are given
 deskAt : ℕ → ℕ → Desk
 deskAt s r15 = record {
   registers = set (replicate 16 0) 15 r15;
   status = s;
   pending = 0;
-  map = record { base = record { 0 = 512 }; length = 4 };
+  map = fourPages;
   system = record { 0 = 0 };
   control = record { 0 = 256 };
   mark = Running;
@@ -64,7 +69,7 @@ memoryOf top1 top3 frame3 =
 
 -- page p names frame f
 namesFrame : Memory → ℕ → ℕ → Bool
-namesFrame m f p = let e = mapEntry (record { 0 = 512 }) m p in present e && undamaged (length m) e && eqb (frameOf e .0) f
+namesFrame m f p = let e = mapEntry fourPages m p in present e && undamaged (length m) e && eqb (frameOf e .0) f
 
 -- one of the first k pages does
 reaches : Memory → ℕ → ℕ → Bool
@@ -80,7 +85,7 @@ reaches-named m f (suc k) p h e = go (ℕ-discrete p k) (λ l. reaches-named m f
     go (yes q) r = rw (← q, e)
     go (no n) r = rw (r (omega arith), or-true)
 
-unreached : (m : Memory) (a f : ℕ) → a / 512 ≡ f → reaches m f 4 ≡ false → Reached (record { 0 = 512 }) 4 m (frameAround a) → ⊥
+unreached : (m : Memory) (a f : ℕ) → a / 512 ≡ f → reaches m f 4 ≡ false → Reached fourPages m (frameAround a) → ⊥
 unfolding namesFrame
 unreached m a f q h r =
     let n = r .names in
