@@ -3,13 +3,13 @@ ghost use mathlib.Core.Path.{_≡_};
 ghost use Prim.Native.Nat.{_+_, _≤_};
 ghost use lib.ListN.{drop, length, take};
 ghost use Rattle.machine.specs.Map.{commit, realWritesFrom};
-ghost use Rattle.machine.specs.State.{entryR15, entryStatus, savedBlockBytes, savedBytes, systemBlockBytes};
+ghost use Rattle.machine.specs.State.{entryR15, entryStatus, savedByteCount, savedBytes, systemBlockBytes};
 use machine::RealAddress;
 use machine::Size;
 
 // A kernel entry's 72 saved bytes: R0 to R15, status and argument.
 pub fn save(mem: &mut [u8], control: RealAddress, regs: &[u32; 16], status: u32, argument: u32)
-    requires { ⌜ control .0 + savedBlockBytes ≤ length (now mem) ⌝ }
+    requires { ⌜ control .0 + savedByteCount ≤ length (now mem) ⌝ }
     ensures { λ r. ⌜ now (mem .exit) ≡ commit (realWritesFrom (control .0) (savedBytes (now (regs .entry)) status argument)) (now (mem .entry)) ⌝ }
 {
     let at = control.0 as usize;

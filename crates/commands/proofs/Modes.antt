@@ -6,7 +6,7 @@ use mathlib.Core.Option.{Option, none, some}
 use native.Mathlib.Omega.{arith}
 use lib.Dec.{eqb}
 use Rattle.machine.specs.Words.{pick}
-use Rattle.rules.proofs.Bytes.{values, same}
+use Rattle.machine.proofs.CommandBytes.{values, same}
 use Rattle.machine.specs.Code.{Command, common, userOnly, kernelOnly, Known, known, knownIn, table}
 
 -- in user mode or not, the command alarms with 13

@@ -4,7 +4,6 @@ ghost use mathlib.Core.Path.{_≡_};
 ghost use Rattle.commands.specs.Execution.{actionEnd, execOf};
 ghost use Rattle.forms.specs.Answers.{SmallTarget};
 ghost use Rattle.lookup.specs.Answers.{Fits};
-ghost use Rattle.machine.specs.Code.{table};
 ghost use Rattle.machine.specs.Map.{viewBy};
 ghost use Rattle.results.specs.Ends.{outAs};
 ghost use Rattle.rules.specs.Rules.{tableOf};

@@ -1,8 +1,6 @@
 // The MI desk: make a fresh one, step it, run it, request an interrupt level. Every call answers every input.
 ghost use mathlib.Core.Path.{_≡_};
 ghost use lib.ListN.{length};
-ghost use Rattle.desk.specs.Replies.{ranAs};
-ghost use Rattle.entry.specs.Replies.{stepped};
 ghost use Rattle.machine.specs.Calls.{freshOf, requestOf, runOf, stepOf};
 use machine::Answer;
 use machine::Desk;
@@ -33,7 +31,7 @@ pub fn fresh(mem: &[u8], system: RealAddress, control: RealAddress, start: Virtu
 
 // One step.
 pub fn step(d: Desk, mem: &mut [u8]) -> StepReply
-    ensures { λ r. ⌜ stepped r (now (mem .exit)) ≡ stepOf d (now (mem .entry)) ⌝ }
+    ensures { λ r. ⌜ record { reply = r; memory = now (mem .exit) } ≡ stepOf d (now (mem .entry)) ⌝ }
 {
     let q = refusals::refusal(d, mem.len());
     match q {
@@ -52,7 +50,7 @@ pub fn step(d: Desk, mem: &mut [u8]) -> StepReply
 
 // At most n steps, up to a stop. The refusals are tried once.
 pub fn run(d: Desk, mem: &mut [u8], n: u64) -> RunReply
-    ensures { λ r. ⌜ ranAs r (now (mem .exit)) ≡ runOf n d (now (mem .entry)) ⌝ }
+    ensures { λ r. ⌜ record { reply = r; memory = now (mem .exit) } ≡ runOf n d (now (mem .entry)) ⌝ }
 {
     let q = refusals::refusal(d, mem.len());
     match q {

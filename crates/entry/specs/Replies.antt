@@ -18,7 +18,7 @@ use Rattle.results.specs.declared.Out.{Out}
 use Rattle.results.specs.declared.Out.the-variants as out
 use Rattle.results.specs.Ends.{End, commandDone, systemCalled, halted, resumed, alarmed}
 
--- what kernel entries rely on: numbers 2 and 3 have nothing to refuse
+-- what kernel entries rely on, part of what numbers 2 and 3 make sure of
 pub record Blocks (d : Desk) (m : Memory) : Type 0 where
   pub system : d .system .0 + systemBlockBytes ≤ length m
   pub control : d .control .0 + controlBlockBytes ≤ length m

@@ -1,11 +1,13 @@
 -- What a fetch says, in the terms of `machine`.
 use Prim.Native.Nat.{ℕ, _+_, _/_, _%_, _<_}
+use mathlib.Core.Path.{_≡_}
+use Rattle.machine.specs.declared.RealAddress.{RealAddress}
 use Rattle.machine.specs.declared.VirtualAddress.{VirtualAddress}
+use Rattle.machine.specs.declared.Access.the-variants.{Fetch}
 use Rattle.machine.specs.Words.{Memory, byteAt, wordAt}
 use Rattle.machine.specs.Alarms.{OrAlarm, got, alarm}
-use Rattle.machine.specs.Map.{View}
+use Rattle.machine.specs.Map.{foundAt, View}
 use Rattle.machine.specs.Operands.{Fields}
-use Rattle.lookup.specs.Answers.{FetchedFrom}
 use Rattle.fetches.specs.declared.CommandByte.{CommandByte}
 use Rattle.fetches.specs.declared.CommandByte.the-variants as commandByte
 use Rattle.fetches.specs.declared.OperandBytes.{OperandBytes}
@@ -19,6 +21,10 @@ commandByteAs (commandByte.Alarm x n) = alarm n x
 abbrev pub ByteOrAlarm : CommandByte → Type 0
 ByteOrAlarm (commandByte.Byte b a) = b < 256
 ByteOrAlarm (commandByte.Alarm x n) = Unit {0}
+
+-- the fetch at address x finds place a of memory m
+pub record FetchedFrom (v : View) (m : Memory) (x : VirtualAddress) (a : RealAddress) : Type 0 where
+  pub hit : v x Fetch ≡ got (foundAt m a)
 
 abbrev pub PlaceOrAlarm : View → Memory → VirtualAddress → CommandByte → Type 0
 PlaceOrAlarm v m x (commandByte.Byte b a) = FetchedFrom v m x a

@@ -2,8 +2,8 @@
 ghost use mathlib.Core.Path.{_≡_};
 ghost use Prim.Native.Nat.{_+_, _≤_};
 ghost use lib.ListN.{length};
-ghost use Rattle.fetches.specs.Answers.{ByteOrAlarm, PairOrAlarm, PlaceOrAlarm, commandByteAs, operandBytesAs, operandBytesAt};
-ghost use Rattle.lookup.specs.Answers.{FetchedFrom, Fits};
+ghost use Rattle.fetches.specs.Answers.{ByteOrAlarm, FetchedFrom, PairOrAlarm, PlaceOrAlarm, commandByteAs, operandBytesAs, operandBytesAt};
+ghost use Rattle.lookup.specs.Answers.{Fits};
 ghost use Rattle.machine.specs.Map.{readBytes, viewBy};
 ghost use Rattle.machine.specs.Operands.{fieldsAt};
 use lookup::Lookup;
@@ -15,13 +15,13 @@ use machine::RealAddress;
 use machine::VirtualAddress;
 use reads::Got;
 
-// A command byte and where it lies, or an alarm and its argument.
+// A command byte and where it lies, or an alarm's argument and the alarm.
 pub enum CommandByte {
     Byte(u32, RealAddress),
     Alarm(u32, Alarm),
 }
 
-// An operand's form byte, register pair and word, or an alarm and its argument.
+// An operand's form byte, register pair and word, or an alarm's argument and the alarm.
 pub enum OperandBytes {
     Fields(u32, u32, u32),
     Alarm(u32, Alarm),

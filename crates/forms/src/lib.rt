@@ -14,7 +14,7 @@ use machine::Size;
 use machine::VirtualAddress;
 use reads::Got;
 
-// Where an operand is, or an alarm and its argument.
+// Where an operand is, or an alarm's argument and the alarm.
 pub enum Location {
     Immediate(u32),
     Register(u32),

@@ -19,7 +19,7 @@ use Rattle.machine.specs.Words.{pick, byteAt, bytesOf, bytesOfWords, wordAt, wo
 abbrev pub stateBytes : ℕ
 stateBytes = 90
 
--- the word that says that a desk runs: no call stops a desk with this number (crates/midesk/proofs/Stops.antt)
+-- the word that says that a desk runs; no call stops a desk with this number
 abbrev pub runs : ℕ
 runs = 0xFFFF_FFFF
 

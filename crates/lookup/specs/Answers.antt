@@ -1,21 +1,20 @@
 -- What a lookup says, in the terms of `machine`.
-use Prim.Native.Nat.{ℕ, _+_, _*_, _%_, _≤_, _<_}
+use Prim.Native.Nat.{ℕ, _+_, _*_, _%_, _≤_}
 use mathlib.Core.Path.{_≡_}
 use lib.ListN.{length}
 use Rattle.machine.specs.declared.RealAddress.{RealAddress}
 use Rattle.machine.specs.declared.VirtualAddress.{VirtualAddress}
 use Rattle.machine.specs.declared.Access.{Access}
-use Rattle.machine.specs.declared.Access.the-variants.{Fetch}
 use Rattle.machine.specs.declared.Map.{Map}
 use Rattle.machine.specs.Words.{Memory}
 use Rattle.machine.specs.Alarms.{OrAlarm, got, alarm}
-use Rattle.machine.specs.Map.{Found, foundAt, View, viewBy}
+use Rattle.machine.specs.Map.{Found, foundAt, viewBy}
 use Rattle.lookup.specs.declared.Lookup.{Lookup}
 use Rattle.lookup.specs.declared.Lookup.the-variants as lookup
 use Rattle.lookup.specs.declared.Neighbour.{Neighbour}
 use Rattle.lookup.specs.declared.Neighbour.the-variants as neighbour
 
--- what a lookup relies on: numbers 1 and 4 have nothing to refuse
+-- what a lookup relies on, part of what numbers 1 and 4 make sure of
 pub record Fits (map : Map) (m : Memory) : Type 0 where
   pub inside : map .base .0 + 4 * map .length ≤ length m
   pub small : length m ≤ 16777216
@@ -25,10 +24,6 @@ pub record Fits (map : Map) (m : Memory) : Type 0 where
 abbrev pub lookupAs : Memory → Lookup → OrAlarm Found
 lookupAs m (lookup.At a) = got (foundAt m a)
 lookupAs m (lookup.Alarm x n) = alarm n (x .0)
-
--- the fetch at address x finds place a of memory m
-pub record FetchedFrom (v : View) (m : Memory) (x : VirtualAddress) (a : RealAddress) : Type 0 where
-  pub hit : v x Fetch ≡ got (foundAt m a)
 
 -- in every memory of whole frames, in either mode and for every reason: where the byte at start is found at that place, the byte at x is found at a
 pub record FoundFrom (start : VirtualAddress) (found : RealAddress) (x : VirtualAddress) (a : RealAddress) : Type 0 where

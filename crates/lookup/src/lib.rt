@@ -13,7 +13,7 @@ use machine::Map;
 use machine::RealAddress;
 use machine::VirtualAddress;
 
-// Where a byte lies, or the number of an alarm and the byte's address.
+// Where a byte lies, or the byte's address and an alarm.
 pub enum Lookup {
     At(RealAddress),
     Alarm(VirtualAddress, Alarm),
@@ -46,6 +46,7 @@ fn look_mapped(mem: &[u8], map: Map, x: VirtualAddress, why: Access) -> Lookup
     if e < 0x8000_0000 {
         return Lookup::Alarm(x, Alarm::Absent);
     }
+    // The forbidden bits stay above the frame number: with one of them set it is past every memory, so one test is 10.
     let f = e % 0x4000_0000;
     if mem.len() / 512 <= f as usize {
         return Lookup::Alarm(x, Alarm::MapEntry);
@@ -84,7 +85,8 @@ pub fn look(mem: &[u8], status: u32, map: Map, x: VirtualAddress, why: Access) -
     Lookup::Alarm(x, Alarm::Address)
 }
 
-// The byte at x, if n bytes from there on lie in the page of the byte at start, and not before it, which was found at found.
+// Where the byte at x lies, if x is not before start and the n bytes from x on lie in the page of start, whose byte lies
+// at found. Elsewhere promises nothing: the caller looks the byte up.
 pub fn beside(start: VirtualAddress, found: RealAddress, x: VirtualAddress, n: u32) -> Neighbour
     requires { ⌜ (found .0 ≤ 16777216) × (1 ≤ n) × (n ≤ 512) ⌝ }
     ensures { λ r. ⌜ FoundBeside start found x n r ⌝ }

@@ -6,12 +6,10 @@ use native.Mathlib.Nat.{add-zero, div-one}
 use native.Mathlib.Numerals.{add-one}
 use native.Mathlib.Omega.{arith}
 use lib.ListN.{length, getD, set, take, drop, length-append, length-take, List·getD-eq-default}
-use lib.Seq.{drop-cons, drop-length, take-at, sets-eq, getD-take, getD-drop}
+use lib.Seq.{drop-cons, drop-length, take-at, sets, sets-eq, getD-take, getD-drop}
 use Rattle.machine.specs.Words.{Memory, byteAt, bytesOf, bytesOfWords, wordAt, wordsAt}
 use Rattle.machine.specs.State.{Registers, reg, registersFrom}
-use Rattle.machine.specs.Map.{realWritesFrom, commit}
 use Rattle.machine.proofs.Bytes.{bytes-length}
-use Rattle.machine.proofs.Writes.{commit-from}
 
 -- ---- Bytes of words
 
@@ -34,61 +32,45 @@ unfolding registersFrom
 registers-length zero i r = refl
 registers-length (suc k) i r = ap suc (registers-length k (suc i) r)
 
--- ---- Written
+-- ---- Laid into a row of bytes
 
--- bytes that follow one another are written one part after the other
-commit-append : (xs ys : List ℕ) (a : ℕ) (m : Memory)
-    → commit (realWritesFrom a (xs ++ ys)) m ≡ commit (realWritesFrom (a + length xs) ys) (commit (realWritesFrom a xs) m)
-unfolding commit realWritesFrom
-commit-append [] ys a m = rw add-zero
-commit-append (x ∷ xs) ys a m =
+-- bytes that follow one another are laid one part after the other
+pub sets-append : (xs ys bs : List ℕ) (a : ℕ) → sets bs a (xs ++ ys) ≡ sets (sets bs a xs) (a + length xs) ys
+sets-append [] ys bs a = rw add-zero
+sets-append (x ∷ xs) ys bs a =
     let e : suc a + length xs ≡ a + suc (length xs) = omega arith in
-    rw (← e) (commit-append xs ys (suc a) _)
-
--- a word goes to four places
-pub commit-word : (w a : ℕ) (m : Memory) → commit (realWritesFrom a (bytesOf 4 w)) m
-    ≡ set (set (set (set m a (w / 0x100_0000 % 256)) (a + 1) (w / 0x1_0000 % 256)) (a + 2) (w / 0x100 % 256)) (a + 3) (w % 256)
-unfolding commit realWritesFrom bytesOf
-commit-word w a m =
-    let second : a + 1 ≡ suc a = omega arith in
-    let third : a + 2 ≡ suc (suc a) = omega arith in
-    let fourth : a + 3 ≡ suc (suc (suc a)) = omega arith in
-    rw (second, third, fourth, div-one)
+    rw (← e) (sets-append xs ys (set bs a x) (suc a))
 
 -- the first word, then the others
-commit-words : (w : ℕ) (ws : List ℕ) (a : ℕ) (m : Memory)
-    → commit (realWritesFrom a (bytesOfWords (w ∷ ws))) m ≡ commit (realWritesFrom (a + 4) (bytesOfWords ws)) (commit (realWritesFrom a (bytesOf 4 w)) m)
+sets-words : (w : ℕ) (ws bs : List ℕ) (a : ℕ) → sets bs a (bytesOfWords (w ∷ ws)) ≡ sets (sets bs a (bytesOf 4 w)) (a + 4) (bytesOfWords ws)
 unfolding bytesOfWords
-commit-words w ws a m = rw bytes-length at (commit-append (bytesOf 4 w) (bytesOfWords ws) a m)
+sets-words w ws bs a = rw bytes-length at (sets-append (bytesOf 4 w) (bytesOfWords ws) bs a)
 
 -- word i of some, then those after it
-pub commit-next : (i : ℕ) (ws : List ℕ) (a : ℕ) (m : Memory) → i < length ws
-    → commit (realWritesFrom (a + 4 * i) (bytesOfWords (drop i ws))) m
-    ≡ commit (realWritesFrom (a + 4 * (i + 1)) (bytesOfWords (drop (i + 1) ws))) (commit (realWritesFrom (a + 4 * i) (bytesOf 4 (getD ws i 0))) m)
-commit-next i ws a m h =
+pub sets-next : (i : ℕ) (ws bs : List ℕ) (a : ℕ) → i < length ws
+    → sets bs (a + 4 * i) (bytesOfWords (drop i ws)) ≡ sets (sets bs (a + 4 * i) (bytesOf 4 (getD ws i 0))) (a + 4 * (i + 1)) (bytesOfWords (drop (i + 1) ws))
+sets-next i ws bs a h =
     let e : a + 4 * (i + 1) ≡ a + 4 * i + 4 = omega arith in
-    rw (add-one i, drop-cons ws i 0 h, ← add-one i, e) (commit-words (getD ws i 0) _ (a + 4 * i) m)
+    rw (add-one i, drop-cons ws i 0 h, ← add-one i, e) (sets-words (getD ws i 0) _ bs (a + 4 * i))
 
 -- some words, then two more
-pub commit-two-more : (ws : List ℕ) (v w a n : ℕ) (m : Memory) → length ws ≡ n
-    → commit (realWritesFrom a (bytesOfWords (ws ++ v ∷ w ∷ []))) m
-    ≡ commit (realWritesFrom (a + (4 * n + 4)) (bytesOf 4 w)) (commit (realWritesFrom (a + 4 * n) (bytesOf 4 v)) (commit (realWritesFrom a (bytesOfWords ws)) m))
-commit-two-more ws v w a n m l =
+pub sets-two-more : (ws : List ℕ) (v w : ℕ) (bs : List ℕ) (a n : ℕ) → length ws ≡ n
+    → sets bs a (bytesOfWords (ws ++ v ∷ w ∷ [])) ≡ sets (sets (sets bs a (bytesOfWords ws)) (a + 4 * n) (bytesOf 4 v)) (a + (4 * n + 4)) (bytesOf 4 w)
+sets-two-more ws v w bs a n l =
     let e : a + length (bytesOfWords ws) ≡ a + 4 * n = omega (arith, words-length ws) in
     let f : a + 4 * n + 4 ≡ a + (4 * n + 4) = omega arith in
-    rw (words-append, commit-append (bytesOfWords ws) _ a m, e, commit-words v (w ∷ []) (a + 4 * n) _, one-word, f)
+    rw (words-append, sets-append (bytesOfWords ws) _ bs a, e, sets-words v (w ∷ []) _ (a + 4 * n), one-word, f)
 
 -- a value that is laid into a row of bytes at its start
-pub bytes-first : (L x : ℕ) (bs : List ℕ) → L ≤ length bs → take L (commit (realWritesFrom 0 (bytesOf L x)) bs) ≡ bytesOf L x
-bytes-first L x bs l =
-    rw (commit-from, sets-eq (bytesOf L x) bs 0 (omega (arith, bytes-length L x))) (take-at (bytesOf L x) _ L (bytes-length L x))
+pub bytes-first : (L x : ℕ) (bs : List ℕ) → L ≤ length bs → take L (sets bs 0 (bytesOf L x)) ≡ bytesOf L x
+bytes-first L x bs l = rw (sets-eq (bytesOf L x) bs 0 (omega (arith, bytes-length L x))) (take-at (bytesOf L x) _ L (bytes-length L x))
 
 -- words that fill a row of bytes from its start
-pub row-filled : (ws bs : List ℕ) → 4 * length ws ≡ length bs → commit (realWritesFrom 0 (bytesOfWords ws)) bs ≡ bytesOfWords ws
+pub row-filled : (ws bs : List ℕ) → 4 * length ws ≡ length bs → sets bs 0 (bytesOfWords ws) ≡ bytesOfWords ws
 row-filled ws bs l =
     let e : length (bytesOfWords ws) ≡ length bs = words-length ws ∙ l in
     let z : 0 + length bs ≡ length bs = omega arith in
-    rw (commit-from, sets-eq (bytesOfWords ws) bs 0 (omega arith), e, z, drop-length, append-nil)
+    rw (sets-eq (bytesOfWords ws) bs 0 (omega arith), e, z, drop-length, append-nil)
 
 -- ---- Read
 

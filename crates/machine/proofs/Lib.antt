@@ -8,6 +8,8 @@ pub mod Biased
 pub mod Magnitudes
 pub mod Shifts
 pub mod Bytes
+-- the table of command bytes
+pub mod CommandBytes
 -- memory: writes, views, pages, blocks
 pub mod Writes
 pub mod Views

@@ -21,7 +21,8 @@ alarmNumber alarms.Operand = 14
 -- "DIV by zero"
 alarmNumber alarms.Divide = 15
 
--- a kernel entry's cause is "the alarm number"
+-- the cause of the kernel entry that an alarm makes, and the entry of the system block: "the alarm number otherwise". A definition of its
+-- own, since a later alarm may share an entry
 abbrev pub alarmCause : Alarm → ℕ
 alarmCause a = alarmNumber a
 

@@ -13,7 +13,7 @@ use Rattle.machine.specs.declared.Desk.{Desk}
 use Rattle.machine.specs.declared.Answer.{Answer}
 use Rattle.machine.specs.declared.FrameNumber.{FrameNumber}
 use Rattle.machine.specs.Words.{Memory, byteAt}
-use Rattle.machine.specs.State.{userMode, frameAround, systemBlockBytes, savedBlockBytes}
+use Rattle.machine.specs.State.{userMode, frameAround, systemBlockBytes, savedByteCount}
 use Rattle.machine.specs.Map.{Reached, WritableReached, InMap, commit}
 use Rattle.machine.specs.Steps.{Event, quiet, entered, stopped, Outcome}
 use Rattle.machine.specs.Calls.{stepRefusal, stepOutcome, requestRefusal, requestOutcome}
@@ -74,7 +74,7 @@ Holds mapNotWritable d m n = (a : ℕ) → InMap (d .map) m a → WritableReache
 abbrev pub Changed : Desk → Memory → Event → Memory → Memory → Type 0
 Changed o m quiet x y =
     (length y ≡ length x) × ((a : ℕ) → (WritableReached (o .map) m (frameAround a) → ⊥) → byteAt y a ≡ byteAt x a)
-Changed o m (entered i saved) x y = (length saved ≡ savedBlockBytes) × (y ≡ sets x (o .control .0) saved)
+Changed o m (entered i saved) x y = (length saved ≡ savedByteCount) × (y ≡ sets x (o .control .0) saved)
 Changed o m (stopped n) x y = y ≡ x
 
 -- one call, given alike to desk d over memory x and to desk e over memory y

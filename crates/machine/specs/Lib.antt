@@ -4,7 +4,7 @@
 pub mod Words
 -- What the desk holds
 pub mod State
--- a value, or an alarm
+-- Numbers 1 to 16, 8 to 15: the alarms; a value, or an alarm
 pub mod Alarms
 -- Map: entries, the lookup of one byte, reached frames
 pub mod Map

@@ -113,8 +113,8 @@ abbrev pub controlBlockBytes : ℕ
 controlBlockBytes = 80
 
 -- "R0 to R15, status and argument": the bytes that a kernel entry writes
-abbrev pub savedBlockBytes : ℕ
-savedBlockBytes = 72
+abbrev pub savedByteCount : ℕ
+savedByteCount = 72
 
 -- k registers from Ri on; a list that lacks one counts as 0 there
 unfoldable pub registersFrom : ℕ → ℕ → Registers → List ℕ
@@ -152,7 +152,7 @@ deskWith d r s p k = record {
   mark = k;
 }
 
--- The state with new registers, status, map and control block: what RESUME loads
+-- The state with new registers, status, map and control block: what RESUME leaves
 
 abbrev pub deskResumed : Desk → Registers → ℕ → Map → RealAddress → Desk
 deskResumed d r s map control = record {

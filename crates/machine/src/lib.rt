@@ -5,7 +5,7 @@ ghost use Rattle.machine.specs.State.{deskWith, deskResumed};
 ghost use Rattle.machine.specs.Alarms.{alarmNumber, alarmCause};
 ghost use Rattle.machine.specs.Calls.{refusalNumber, answerNumber, freshDesk, zeroDesk, stepAnswerNumber};
 
-// The bytes of the system block, of the control block, and of what a kernel entry saves there.
+// The bytes of the system block and of the control block.
 pub const SYSTEM_BLOCK_BYTES: u64 = 256;
 
 pub const CONTROL_BLOCK_BYTES: u64 = 80;

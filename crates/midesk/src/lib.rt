@@ -1,7 +1,6 @@
 // The four calls for programs in C and Rust: the state as bytes, the memory as a lent slice. Any bytes are a state; every call answers.
 ghost use mathlib.Core.Path.{_≡_};
 ghost use lib.ListN.{length};
-ghost use Rattle.machine.specs.Operands.{memory};
 ghost use Rattle.midesk.specs.Exports.{freshCall, requestCall, runCall, stepCall, stepCode};
 use layout::STATE_BYTES;
 use machine::RealAddress;

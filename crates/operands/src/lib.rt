@@ -3,7 +3,8 @@ ghost use mathlib.Core.Path.{_≡_};
 ghost use Prim.Native.Nat.{_<_};
 ghost use lib.Dec.{eqb};
 ghost use Rattle.forms.specs.Answers.{SmallLocation, SmallTarget, locationAs};
-ghost use Rattle.lookup.specs.Answers.{FetchedFrom, Fits};
+ghost use Rattle.fetches.specs.Answers.{FetchedFrom};
+ghost use Rattle.lookup.specs.Answers.{Fits};
 ghost use Rattle.machine.specs.Map.{readBytes, viewBy};
 ghost use Rattle.machine.specs.Operands.{immediate, operandAt, operandsOf};
 ghost use Rattle.machine.specs.Words.{lengthOf, pick};
@@ -22,13 +23,14 @@ use machine::Target;
 use machine::VirtualAddress;
 use reads::Got;
 
-// What one operand gives, or an alarm and its argument.
+// What one operand gives, or an alarm's argument and the alarm.
 pub enum Taken {
     Got(u32, Target),
     Alarm(u32, Alarm),
 }
 
-// What all operands give: the first's and the second's number, and where the last one's result goes; or an alarm and its argument.
+// What all operands give: the first's and the second's number, and where the last one's result goes; or an alarm's argument and
+// the alarm.
 pub enum Operands {
     Ready(u32, u32, Target),
     Alarm(u32, Alarm),

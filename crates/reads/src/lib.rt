@@ -12,7 +12,7 @@ use machine::Map;
 use machine::Size;
 use machine::VirtualAddress;
 
-// A value, or an alarm and its argument.
+// A value, or an alarm's argument and the alarm.
 pub enum Got {
     Value(u32),
     Alarm(u32, Alarm),

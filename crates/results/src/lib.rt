@@ -3,8 +3,7 @@ ghost use mathlib.Core.Path.{_≡_};
 ghost use Rattle.forms.specs.Answers.{SmallTarget};
 ghost use Rattle.lookup.specs.Answers.{Fits};
 ghost use Rattle.machine.specs.Alarms.{got};
-ghost use Rattle.machine.specs.Code.{value};
-ghost use Rattle.machine.specs.Commands.{done, keptRest, stored};
+ghost use Rattle.machine.specs.Commands.{keptRest, stored};
 ghost use Rattle.machine.specs.Map.{located, viewBy, writesFrom};
 ghost use Rattle.machine.specs.State.{withFlags};
 ghost use Rattle.machine.specs.Words.{bytesOf, lengthOf};
@@ -18,7 +17,7 @@ use machine::Target;
 use machine::VirtualAddress;
 use stores::Stored;
 
-// How a command ended: with a new status; a system call with its argument; stopped; a control block's address to resume from; an alarm and its argument.
+// How a command ended: with a new status; a system call with its argument; stopped; a control block's address to resume from; an alarm's argument and the alarm.
 pub enum Out {
     Done(u32),
     System(u32),

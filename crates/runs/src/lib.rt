@@ -18,7 +18,7 @@ fn running(d: Desk, registers: [u32; 16], status: u32) -> Desk
     d.with(registers, status, d.pending, Mark::Running)
 }
 
-// What some steps came to: their number, what the last one came to, and the desk.
+// What some steps came to: their number, the desk and, where one step was asked for, what it came to.
 pub struct Progress {
     pub count: u64,
     pub last: StepAnswer,

@@ -3,7 +3,6 @@ ghost use mathlib.Core.Path.{_≡_};
 ghost use Prim.Native.Nat.{_≤_};
 ghost use lib.ListN.{take};
 ghost use Rattle.lookup.specs.Answers.{Fits};
-ghost use Rattle.machine.specs.Code.{value};
 ghost use Rattle.machine.specs.Map.{located, viewBy, writesFrom};
 ghost use Rattle.machine.specs.Words.{bytesOf, lengthOf};
 ghost use Rattle.stores.specs.Answers.{storeEndOf, storedAs};
@@ -15,7 +14,7 @@ use machine::RealAddress;
 use machine::Size;
 use machine::VirtualAddress;
 
-// A store is done, or an alarm and its argument.
+// A store is done, or an alarm's argument and the alarm.
 pub enum Stored {
     Done,
     Alarm(u32, Alarm),

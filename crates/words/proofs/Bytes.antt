@@ -1,17 +1,12 @@
 -- The bytes of each size.
-use Prim.Native.Nat.{ℕ, zero, suc, _+_, _-_, _/_, _%_, _^_, _≤_, _<_}
-use mathlib.Core.Path.{_≡_, refl}
-use mathlib.Core.List.{List, [], _∷_}
-use native.Mathlib.Decide.{ℕ-discrete}
-use native.Mathlib.Nat.{add-zero}
+use Prim.Native.Nat.{ℕ, suc, _+_, _/_, _%_, _^_}
+use mathlib.Core.Path.{_≡_}
+use mathlib.Core.List.{[], _∷_}
 use native.Mathlib.Numerals.{add-one}
 use native.Mathlib.Omega.{arith}
-use lib.ListN.{length, getD, set, take, drop}
-use lib.Seq.{drop-cons, getD-set-same, getD-set-other}
-use Rattle.machine.specs.declared.Access.the-variants.{Write}
-use Rattle.machine.specs.Words.{Memory, bytesOf, wrap}
-use Rattle.machine.specs.Alarms.{got, alarm}
-use Rattle.machine.specs.Map.{foundAt, View, RealWrites, writesFrom, realWritesFrom, located, commit}
+use lib.ListN.{set}
+use lib.Seq.{sets}
+use Rattle.machine.specs.Words.{Memory, bytesOf}
 
 lowest-byte : (v : ℕ) → v / 256 ^ 0 % 256 ≡ v % 256
 lowest-byte v = omega arith
@@ -29,10 +24,15 @@ unfolding bytesOf
 four-bytes v = rw lowest-byte
 
 module _ (m : Memory) (a v : ℕ) where
-  pub one-byte-stored : set m a (v % 256) ≡ commit (realWritesFrom a (bytesOf 1 v)) m
-  unfolding commit realWritesFrom
-  one-byte-stored = rw one-byte
+  pub one-byte-laid : set m a (v % 256) ≡ sets m a (bytesOf 1 v)
+  one-byte-laid = rw one-byte
 
-  pub two-bytes-stored : set (set m a (v / 256 % 256)) (a + 1) (v % 256) ≡ commit (realWritesFrom a (bytesOf 2 v)) m
-  unfolding commit realWritesFrom
-  two-bytes-stored = rw (two-bytes, add-one)
+  pub two-bytes-laid : set (set m a (v / 256 % 256)) (a + 1) (v % 256) ≡ sets m a (bytesOf 2 v)
+  two-bytes-laid = rw (two-bytes, add-one)
+
+  pub four-bytes-laid : set (set (set (set m a (v / 0x100_0000 % 256)) (a + 1) (v / 0x1_0000 % 256)) (a + 2) (v / 0x100 % 256)) (a + 3) (v % 256) ≡ sets m a (bytesOf 4 v)
+  four-bytes-laid =
+      let second : a + 1 ≡ suc a = omega arith in
+      let third : a + 2 ≡ suc (suc a) = omega arith in
+      let fourth : a + 3 ≡ suc (suc (suc a)) = omega arith in
+      rw (four-bytes, second, third, fourth)

@@ -2,9 +2,7 @@
 ghost use mathlib.Core.Path.{_≡_};
 ghost use Prim.Native.Nat.{_*_, _+_, _<_, _≤_};
 ghost use lib.ListN.{length};
-ghost use Rattle.machine.specs.Code.{value};
-ghost use Rattle.machine.specs.Map.{commit, realWritesFrom};
-ghost use Rattle.machine.specs.Operands.{at};
+ghost use lib.Seq.{sets};
 ghost use Rattle.machine.specs.Words.{bytesOf, bytesOfWords, lengthOf, lowered, raised, wordAt, wordsAt};
 ghost use Rattle.words.specs.Values.{valueAt};
 use machine::Size;
@@ -28,7 +26,7 @@ pub fn word(bytes: &[u8], a: usize) -> u32
         + wide(bytes[a + 3])
 }
 
-// The value of a size at a place of bytesory.
+// The value of a size at a place.
 pub fn value_at(bytes: &[u8], a: usize, size: Size) -> u32
     requires { ⌜ a + lengthOf size ≤ length (now bytes) ⌝ }
     ensures { λ r. ⌜ r ≡ valueAt (now (bytes .entry)) (lengthOf size) a 0 ⌝ }
@@ -40,7 +38,7 @@ pub fn value_at(bytes: &[u8], a: usize, size: Size) -> u32
     }
 }
 
-// R0 to R15 of the control block at a place of bytesory.
+// Sixteen words from a place on: R0 to R15 of a control block, or of a state in bytes.
 pub fn sixteen(bytes: &[u8], at: usize) -> [u32; 16]
     requires { ⌜ at + 64 ≤ length (now bytes) ⌝ }
     ensures { λ r. ⌜ r ≡ wordsAt 16 (now (bytes .entry)) at ⌝ }
@@ -56,10 +54,10 @@ pub fn sixteen(bytes: &[u8], at: usize) -> [u32; 16]
 
 // ---- Bytes from numbers
 
-// The bytes of a value to a place of bytesory.
+// The bytes of a value to a place.
 pub fn value_to(bytes: &mut [u8], a: usize, size: Size, value: u32)
     requires { ⌜ a + lengthOf size ≤ length (now bytes) ⌝ }
-    ensures { λ r. ⌜ now (bytes .exit) ≡ commit (realWritesFrom a (bytesOf (lengthOf size) value)) (now (bytes .entry)) ⌝ }
+    ensures { λ r. ⌜ now (bytes .exit) ≡ sets (now (bytes .entry)) a (bytesOf (lengthOf size) value) ⌝ }
 {
     match size {
         Size::B => {
@@ -81,7 +79,7 @@ pub fn value_to(bytes: &mut [u8], a: usize, size: Size, value: u32)
 // The bytes of some words to the places from one on.
 pub fn put_words(bytes: &mut [u8], at: usize, words: &[u32])
     requires { ⌜ at + 4 * length (now words) ≤ length (now bytes) ⌝ }
-    ensures { λ r. ⌜ now (bytes .exit) ≡ commit (realWritesFrom at (bytesOfWords (now (words .entry)))) (now (bytes .entry)) ⌝ }
+    ensures { λ r. ⌜ now (bytes .exit) ≡ sets (now (bytes .entry)) at (bytesOfWords (now (words .entry))) ⌝ }
 {
     let mut i: usize = 0;
     while i < words.len() {

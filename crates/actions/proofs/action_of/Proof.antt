@@ -13,7 +13,7 @@ use Rattle.machine.specs.Code.{MOVE, CLEAR, MOVEN, MOVEC, OR, ANDNOT, XOR, ADD,
 use Rattle.machine.specs.Code.{Common, result, CMP, table, knownIn, known}
 use Rattle.machine.specs.Integers.{natural, operate}
 use Rattle.machine.specs.Commands.{jumps}
-use Rattle.rules.proofs.Bytes.{values, same, between, unknown}
+use Rattle.machine.proofs.CommandBytes.{values, same, between, unknown}
 use Rattle.actions.specs.declared.Action.{Action}
 use Rattle.actions.specs.declared.Action.the-variants.{Alarm}
 use Rattle.actions.specs.Actions.{commonAction, actionOf}

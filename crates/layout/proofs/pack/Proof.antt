@@ -1,26 +1,24 @@
 -- `pack` is right: registers, other words and the pending set's two bytes, one after the other, fill the row.
-use Prim.Native.Nat.{ℕ, suc, _+_, _/_, _%_}
-use mathlib.Core.Path.{_≡_, refl, _∙_}
+use Prim.Native.Nat.{ℕ, _+_, _/_, _%_}
+use mathlib.Core.Path.{_≡_, refl, sym, _∙_}
 use mathlib.Core.List.{List, [], _∷_, _++_, append-nil}
 use native.Mathlib.Nat.{div-one}
 use native.Mathlib.Omega.{arith}
 use borrow.Author.Needs.{needs}
-use lib.ListN.{length, set, length-append}
+use lib.ListN.{length, length-append}
 use lib.Seq.{sets, sets-eq, drop-length}
 use Rattle.machine.specs.Words.{bytesOf, bytesOfWords}
-use Rattle.machine.specs.Map.{commit, realWritesFrom}
-use Rattle.machine.proofs.Blocks.{words-append, words-length}
-use Rattle.machine.proofs.Writes.{commit-from}
+use Rattle.machine.proofs.Blocks.{words-append, words-length, sets-append}
 use Rattle.layout.specs.Layout.{wordsOf, packed}
 use Rattle.layout.proofs.pack.Statement.{statement}
 use Rattle.layout.proofs.pack.Tie as tie
 
-sets-append : (xs ys l : List ℕ) (i n : ℕ) → i + length xs ≡ n → sets (sets l i xs) n ys ≡ sets l i (xs ++ ys)
-sets-append [] ys l i n e = let f : n ≡ i = omega arith in rw f
-sets-append (x ∷ xs) ys l i n e = sets-append xs ys (set l i x) (suc i) n (omega arith)
+-- laid at place n, right after others
+sets-after : (xs ys b : List ℕ) (i n : ℕ) → i + length xs ≡ n → sets (sets b i xs) n ys ≡ sets b i (xs ++ ys)
+sets-after xs ys b i n e = rw (← e) (sym (sets-append xs ys b i))
 
 row : (rs ws vs b : List ℕ) → length rs ≡ 16 → length ws ≡ 6 → length vs ≡ 2 → length b ≡ 90
-    → sets (commit (realWritesFrom 64 (bytesOfWords ws)) (commit (realWritesFrom 0 (bytesOfWords rs)) b)) 88 vs
+    → sets (sets (sets b 0 (bytesOfWords rs)) 64 (bytesOfWords ws)) 88 vs
     ≡ bytesOfWords (rs ++ ws) ++ vs
 row rs ws vs b k l m n =
     let words : List ℕ = bytesOfWords (rs ++ ws) in
@@ -28,8 +26,8 @@ row rs ws vs b k l m n =
     let w : length words ≡ 88 = words-length (rs ++ ws) ∙ simp length-append (omega arith) in
     let all : List ℕ = words ++ vs in
     let whole : 0 + length all ≡ length b = simp length-append (omega arith) in
-    rw (commit-from, commit-from, sets-append (bytesOfWords rs) _ b 0 64 (omega arith), ← words-append)
-    (sets-append words vs b 0 88 (omega arith) ∙ sets-eq all b 0 (omega arith) ∙ rw (whole, drop-length, append-nil))
+    rw (sets-after (bytesOfWords rs) _ b 0 64 (omega arith), ← words-append)
+    (sets-after words vs b 0 88 (omega arith) ∙ sets-eq all b 0 (omega arith) ∙ rw (whole, drop-length, append-nil))
 
 sixteen : (c : tie.Start) → length (c .args .d .registers) ≡ 16
 sixteen c = search needs

@@ -10,7 +10,7 @@ use lib.Dec.{ltb}
 use lib.ListN.{getD}
 use Rattle.machine.specs.Code.{table, knownIn, known}
 use Rattle.rules.specs.Rules.{rulesFrom, rulesIn, knownRules, numbersFrom, tableOf}
-use Rattle.rules.proofs.Bytes.{same}
+use Rattle.machine.proofs.CommandBytes.{same}
 use Rattle.rules.proofs.rules_of.Statement.{statement}
 use Rattle.rules.proofs.rules_of.Tie as tie
 

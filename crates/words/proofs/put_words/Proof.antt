@@ -5,16 +5,16 @@ use native.Mathlib.Nat.{add-zero}
 use native.Mathlib.Omega.{arith}
 use borrow.Author.Needs.{needs}
 use lib.ListN.{length, drop, drop-of-length-le}
+use lib.Seq.{sets}
 use Rattle.machine.specs.Words.{bytesOfWords}
-use Rattle.machine.specs.Map.{realWritesFrom, commit}
-use Rattle.machine.proofs.Blocks.{commit-next}
+use Rattle.machine.proofs.Blocks.{sets-next}
 use Rattle.words.proofs.put_words.Statement.{statement}
 use Rattle.words.proofs.put_words.Tie as tie
 
 abbrev Inv-loop : tie.InvT-loop
 Inv-loop bytes₀ at words i₀ bytes i =
     (i ≤ length words) × (length bytes ≡ length bytes₀)
-    × (commit (realWritesFrom (at + 4 * i) (bytesOfWords (drop i words))) bytes ≡ commit (realWritesFrom at (bytesOfWords words)) bytes₀)
+    × (sets bytes (at + 4 * i) (bytesOfWords (drop i words)) ≡ sets bytes₀ at (bytesOfWords words))
 
 abbrev μ-loop : tie.MeasureT-loop
 μ-loop bytes₀ at words i₀ bytes i = length words - i
@@ -26,11 +26,11 @@ loop-again c =
     let a = b .before .before .before .args in (
       omega arith,
       d .value-to .kept .0 ∙ b .loop .inv .1,
-      rw (d .value-to .ensures) (sym (commit-next (b .loop .i) (a .words .now) (a .at) (b .loop .bytes) (omega arith)) ∙ b .loop .inv .2),
+      rw (d .value-to .ensures) (sym (sets-next (b .loop .i) (a .words .now) (b .loop .bytes) (a .at) (omega arith)) ∙ b .loop .inv .2),
     )
 
 returns : tie.Need-returns Inv-loop μ-loop
-unfolding bytesOfWords realWritesFrom commit
+unfolding bytesOfWords
 returns c =
     let l = c .before .loop in
     rw (drop-of-length-le (c .before .before .before .before .args .words .now) {i = l .i} (omega arith)) at (l .inv .2)

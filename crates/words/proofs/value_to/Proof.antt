@@ -3,8 +3,7 @@ use mathlib.Core.Path.{sym}
 use native.Mathlib.Omega.{arith}
 use borrow.Author.Needs.{needs}
 use lib.ListN.{length-set}
-use Rattle.machine.proofs.Blocks.{commit-word}
-use Rattle.words.proofs.Bytes.{one-byte-stored, two-bytes-stored}
+use Rattle.words.proofs.Bytes.{one-byte-laid, two-bytes-laid, four-bytes-laid}
 use Rattle.words.proofs.value_to.Statement.{statement}
 use Rattle.words.proofs.value_to.Tie as tie
 
@@ -30,13 +29,13 @@ slice-write-bytes-7 : tie.Need-slice-write-bytes-7
 slice-write-bytes-7 c = simp length-set (omega (arith, rw (c .enum-told3 .given .1) at (c .before .before .pre)))
 
 returns : tie.Need-returns
-returns c = rw (c .enum-told .given .1) (one-byte-stored _ _ _)
+returns c = rw (c .enum-told .given .1) (one-byte-laid _ _ _)
 
 returns-2 : tie.Need-returns-2
-returns-2 c = rw (c .enum-told2 .given .1) (two-bytes-stored _ _ _)
+returns-2 c = rw (c .enum-told2 .given .1) (two-bytes-laid _ _ _)
 
 returns-3 : tie.Need-returns-3
-returns-3 c = rw (c .enum-told3 .given .1) (sym (commit-word _ _ _))
+returns-3 c = rw (c .enum-told3 .given .1) (four-bytes-laid _ _ _)
 
 pub value-to-spec : {M : Type 1} → statement M
 value-to-spec =
