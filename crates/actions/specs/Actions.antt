@@ -1,5 +1,5 @@
--- What a command byte asks for, once its operands are taken: the operation stage of `machine`'s commands, as one function
--- of the byte, the flags and the first two operands' numbers.
+-- What a command byte asks for, once its operands are taken: the operation stage of `machine`'s
+-- commands, as one function of the byte, the flags and the first two operands' numbers.
 use Prim.Native.Nat.{ℕ}
 use mathlib.Core.Option.{Option, none, some}
 use Rattle.machine.specs.declared.Size.{Size}

@@ -72,7 +72,8 @@ fn flag_c(f: u32) -> bool
     f % 2 == 1
 }
 
-// The operation of a command byte, from the flags and the first two operands' numbers; 12 for an unknown byte.
+// The operation of a command byte, from the flags and the first two operands' numbers; 12 for an
+// unknown byte.
 pub fn action_of(b: u32, f: u32, x: u32, y: u32) -> Action
     ensures { λ r. ⌜ r ≡ actionOf b f x y ⌝ }
 {

@@ -10,7 +10,8 @@ use machine::Size;
 // A kernel entry's 72 saved bytes: R0 to R15, status and argument.
 pub fn save(mem: &mut [u8], control: RealAddress, regs: &[u32; 16], status: u32, argument: u32)
     requires { ⌜ control .0 + savedByteCount ≤ length (now mem) ⌝ }
-    ensures { λ r. ⌜ now (mem .exit) ≡ commit (realWritesFrom (control .0) (savedBytes (now (regs .entry)) status argument)) (now (mem .entry)) ⌝ }
+    ensures { λ r. ⌜ now (mem .exit)
+        ≡ commit (realWritesFrom (control .0) (savedBytes (now (regs .entry)) status argument)) (now (mem .entry)) ⌝ }
 {
     let at = control.0 as usize;
     words::put_words(mem, at, regs);

@@ -1,5 +1,5 @@
-// What a case expects: of the reply to each call the answer, the words that an entry saves and the state; and the
-// memory after the last call.
+// What a case expects: of the reply to each call the answer, the words that an entry saves and the
+// state; and the memory after the last call.
 use crate::difference::Difference;
 use crate::fields::byte_at;
 use crate::fields::past;
@@ -30,8 +30,8 @@ pub struct Checked {
     pub at: usize,
 }
 
-// What a step came to: the refusal's number or 0; 0 for nothing special, 1 for an entry, 2 for a stop; the cause or the
-// stop's number.
+// What a step came to: the refusal's number or 0; 0 for nothing special, 1 for an entry, 2 for a
+// stop; the cause or the stop's number.
 struct Event {
     refusal: u32,
     kind: u32,

@@ -1,5 +1,5 @@
-// The fields of a case: numbers, highest byte first, at positions of a slice. Beyond its end bytes are 0, parts empty,
-// and positions NOWHERE.
+// The fields of a case: numbers, highest byte first, at positions of a slice. Beyond its end bytes
+// are 0, parts empty, and positions NOWHERE.
 ghost use Prim.Native.Nat.{_≤_};
 
 const NOWHERE: usize = usize::MAX;

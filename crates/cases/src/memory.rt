@@ -1,5 +1,5 @@
-// The memory of a case: its image before the first call, and what the calls changed. Bytes stored outside the memory
-// are dropped.
+// The memory of a case: its image before the first call, and what the calls changed. Bytes stored
+// outside the memory are dropped.
 use crate::fields::byte_at;
 use crate::fields::half_at;
 use crate::fields::part;

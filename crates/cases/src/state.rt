@@ -135,7 +135,8 @@ pub fn same_words(a: Words, b: Words, n: usize) -> bool
     true
 }
 
-// What the words that an entry saves are stored as changes of: registers and status before the call, and argument 0.
+// What the words that an entry saves are stored as changes of: registers and status before the
+// call, and argument 0.
 pub fn unsaved(w: Words) -> Words {
     let mut words = w;
     words[17] = 0;

@@ -2,7 +2,8 @@
 ghost use mathlib.Core.Path.{_≡_};
 ghost use mathlib.Core.Bool.{_&&_, not};
 ghost use Prim.Native.Nat.{_≤_};
-ghost use Rattle.machine.specs.State.{allowedLength, blockFits as blockFitsOf, isPending, mapFits, validKernelStatus, validStatus, validUserStatus};
+ghost use Rattle.machine.specs.State.{allowedLength, blockFits as blockFitsOf, isPending, mapFits, validKernelStatus};
+ghost use Rattle.machine.specs.State.{validStatus, validUserStatus};
 use machine::Map;
 use machine::RealAddress;
 

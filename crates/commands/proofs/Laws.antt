@@ -1,4 +1,5 @@
--- What the ends of the code are in the terms of `machine`: addresses that wrap, a status with its own flags, a store, and the order inside a command.
+-- What the ends of the code are in the terms of `machine`: addresses that wrap, a status with its
+-- own flags, a store, and the order inside a command.
 use Prim.Native.Nat.{ℕ, zero, suc, _+_, _*_, _<_}
 use mathlib.Core.Path.{_≡_, refl, sym, _∙_}
 use mathlib.Core.Bool.{Bool, true, false, false≢true}
@@ -17,10 +18,12 @@ use Rattle.machine.specs.Words.{pick, Memory, lengthOf, wrap}
 use Rattle.machine.specs.State.{Registers, reg, userMode, flagsOf, withFlags}
 use Rattle.machine.specs.Alarms.{OrAlarm, got, alarm, _>>=_}
 use Rattle.machine.specs.Map.{Found, View, viewBy, RealWrites, readFrom, readBytes, located, commit}
-use Rattle.machine.specs.Code.{Common, result, CMP, PUSHR, POPR, jump, CALL, RET, systemCall, HALT, RESUME, Command, common, userOnly, kernelOnly, Rule, Known, known}
+use Rattle.machine.specs.Code.{Common, result, CMP, PUSHR, POPR, jump, CALL, RET, systemCall, HALT, RESUME, Command}
+use Rattle.machine.specs.Code.{common, userOnly, kernelOnly, Rule, Known, known}
 use Rattle.machine.specs.Integers.{natural, operate}
 use Rattle.machine.specs.Operands.{virtual, past, Operands, operandsFrom, operandsOf}
-use Rattle.machine.specs.Commands.{Done, stored, commonDone, done, knownOr12, allowedInUserMode, allowedInKernelMode, completionOf, commandBy, userEffect, userCommand, kernelEffect, kernelCommand}
+use Rattle.machine.specs.Commands.{Done, stored, commonDone, done, knownOr12, allowedInUserMode, allowedInKernelMode}
+use Rattle.machine.specs.Commands.{completionOf, commandBy, userEffect, userCommand, kernelEffect, kernelCommand}
 use Rattle.stores.specs.declared.Stored.{Stored}
 use Rattle.stores.specs.Answers.{storedAs, storeEndOf}
 use Rattle.rules.specs.Rules.{knownRules, forbiddenOf}
@@ -44,16 +47,19 @@ module _ (s : ℕ) (m : Memory) (v : View) where
   kernel-done (alarm n x) = refl
 
   result-end : (size : Size) (o : Operands) (t : OrAlarm Result)
-      → doneEnd s m v (t >>= (λ x. got (stored (lengthOf size) x (o .target) (o .registers)))) ≡ actionEnd s m v (o .registers) (o .first) (o .target) (given size t)
+      → doneEnd s m v (t >>= (λ x. got (stored (lengthOf size) x (o .target) (o .registers)))) ≡ actionEnd s m v
+      (o .registers) (o .first) (o .target) (given size t)
   unfolding actionEnd
   result-end size o (got x) = refl
   result-end size o (alarm n x) = refl
 
   common-end : (o : Operands) (c : Common)
-      → doneEnd s m v (commonDone c v (flagsOf s) o) ≡ actionEnd s m v (o .registers) (o .first) (o .target) (commonAction c (flagsOf s) (o .first) (o .second))
+      → doneEnd s m v (commonDone c v (flagsOf s) o) ≡ actionEnd s m v (o .registers) (o .first) (o .target)
+      (commonAction c (flagsOf s) (o .first) (o .second))
   unfolding actionEnd commonDone located commit
   common-end o (result op size) =
-      result-end size o (operate op (lengthOf size) (natural (lengthOf size) (o .first)) (natural (lengthOf size) (o .second)))
+      result-end size o (operate op (lengthOf size) (natural (lengthOf size) (o .first))
+      (natural (lengthOf size) (o .second)))
   common-end o (CMP size) = refl
   common-end o PUSHR = refl
   common-end o POPR = refl
@@ -65,10 +71,15 @@ module _ (s : ℕ) (m : Memory) (v : View) where
   module _ (r : Registers) (b : ℕ) where
     fetchedEnd : Bool → Option Known → End
     fetchedEnd u k = pick u
-        (userEnd s m v (knownOr12 b k >>= (λ k. allowedInUserMode b (k .command) >>= (λ c. operandsOf v (k .operands) (past 1 r) >>= (λ o. completionOf userEffect c v (flagsOf s) o)))))
-        (kernelEnd s m v (knownOr12 b k >>= (λ k. allowedInKernelMode b (k .command) >>= (λ c. operandsOf v (k .operands) (past 1 r) >>= (λ o. completionOf kernelEffect c v (flagsOf s) o)))))
+        (userEnd s m v (knownOr12 b k
+        >>= (λ k. allowedInUserMode b (k .command)
+        >>= (λ c. operandsOf v (k .operands) (past 1 r) >>= (λ o. completionOf userEffect c v (flagsOf s) o)))))
+        (kernelEnd s m v (knownOr12 b k
+        >>= (λ k. allowedInKernelMode b (k .command)
+        >>= (λ c. operandsOf v (k .operands) (past 1 r) >>= (λ o. completionOf kernelEffect c v (flagsOf s) o)))))
 
-    forbidden-end : (u : Bool) (c : Command) (ks : List Rule) → forbids u c ≡ true → fetchedEnd u (some (record { command = c; operands = ks })) ≡ alarmed alarms.Mode b m
+    forbidden-end : (u : Bool) (c : Command) (ks : List Rule) → forbids u c ≡ true
+        → fetchedEnd u (some (record { command = c; operands = ks })) ≡ alarmed alarms.Mode b m
     unfolding fetchedEnd knownOr12 allowedInUserMode allowedInKernelMode
     forbidden-end u (common c) ks h = absurd (false≢true h)
     forbidden-end true (userOnly k) ks h = absurd (false≢true h)
@@ -76,7 +87,8 @@ module _ (s : ℕ) (m : Memory) (v : View) where
     forbidden-end true (kernelOnly k) ks h = refl
     forbidden-end false (kernelOnly k) ks h = absurd (false≢true h)
 
-    alarm-end : (u : Bool) (c : Command) (ks : List Rule) (n : Alarm) (x : ℕ) → forbids u c ≡ false → operandsOf v ks (past 1 r) ≡ alarm n x
+    alarm-end : (u : Bool) (c : Command) (ks : List Rule) (n : Alarm) (x : ℕ) → forbids u c ≡ false
+        → operandsOf v ks (past 1 r) ≡ alarm n x
         → fetchedEnd u (some (record { command = c; operands = ks })) ≡ alarmed n x m
     unfolding fetchedEnd knownOr12 allowedInUserMode allowedInKernelMode
     alarm-end true (common c) ks n x h a = rw a
@@ -86,8 +98,10 @@ module _ (s : ℕ) (m : Memory) (v : View) where
     alarm-end true (kernelOnly k) ks n x h a = absurd (false≢true (sym h))
     alarm-end false (kernelOnly k) ks n x h a = rw a
 
-    action-end : (u : Bool) (c : Command) (ks : List Rule) (o : Operands) → forbids u c ≡ false → operandsOf v ks (past 1 r) ≡ got o
-        → fetchedEnd u (some (record { command = c; operands = ks })) ≡ actionEnd s m v (o .registers) (o .first) (o .target) (commandAction c (flagsOf s) (o .first) (o .second))
+    action-end : (u : Bool) (c : Command) (ks : List Rule) (o : Operands) → forbids u c ≡ false
+        → operandsOf v ks (past 1 r) ≡ got o
+        → fetchedEnd u (some (record { command = c; operands = ks })) ≡ actionEnd s m v (o .registers) (o .first)
+        (o .target) (commandAction c (flagsOf s) (o .first) (o .second))
     unfolding fetchedEnd knownOr12 allowedInUserMode allowedInKernelMode completionOf actionEnd userEffect kernelEffect
     action-end true (common c) ks o h a = rw a (user-done (commonDone c v (flagsOf s) o) ∙ common-end o c)
     action-end false (common c) ks o h a = rw a (kernel-done (commonDone c v (flagsOf s) o) ∙ common-end o c)
@@ -101,13 +115,16 @@ module _ (s : ℕ) (m : Memory) (v : View) where
     forbidden-known u none h = absurd (false≢true h)
     forbidden-known u (some k) h = forbidden-end u (k .command) (k .operands) h
 
-    alarm-known : (u : Bool) (k : Option Known) (n : Alarm) (x : ℕ) → forbidsKnown u k ≡ false → operandsOf v (knownRules k) (past 1 r) ≡ alarm n x → fetchedEnd u k ≡ alarmed n x m
+    alarm-known : (u : Bool) (k : Option Known) (n : Alarm) (x : ℕ) → forbidsKnown u k ≡ false
+        → operandsOf v (knownRules k) (past 1 r) ≡ alarm n x → fetchedEnd u k ≡ alarmed n x m
     unfolding operandsFrom
     alarm-known u none n x h a = cc
     alarm-known u (some k) n x h a = alarm-end u (k .command) (k .operands) n x h a
 
-    action-known : (u : Bool) (k : Option Known) (o : Operands) → forbidsKnown u k ≡ false → operandsOf v (knownRules k) (past 1 r) ≡ got o
-        → fetchedEnd u k ≡ actionEnd s m v (o .registers) (o .first) (o .target) (knownAction k b (flagsOf s) (o .first) (o .second))
+    action-known : (u : Bool) (k : Option Known) (o : Operands) → forbidsKnown u k ≡ false
+        → operandsOf v (knownRules k) (past 1 r) ≡ got o
+        → fetchedEnd u k ≡ actionEnd s m v (o .registers) (o .first) (o .target)
+        (knownAction k b (flagsOf s) (o .first) (o .second))
     unfolding fetchedEnd knownOr12 actionEnd
     action-known true none o h a = refl
     action-known false none o h a = refl
@@ -120,7 +137,8 @@ pick-same true e = refl
 pick-same false e = refl
 
 module _ (s : ℕ) (map : Map) (r : Registers) (m : Memory) where
-  pub exec-unfetched : (n : Alarm) (x : ℕ) → alarm n x ≡ readBytes (viewBy s map m) Fetch 1 (record { 0 = reg r 15 }) → alarmed n x m ≡ execOf s map r m
+  pub exec-unfetched : (n : Alarm) (x : ℕ) → alarm n x ≡ readBytes (viewBy s map m) Fetch 1 (record { 0 = reg r 15 })
+      → alarmed n x m ≡ execOf s map r m
   unfolding execOf userCommand kernelCommand commandBy
   exec-unfetched n x h = rw (read-virtual, ← h, pick-same)
 
@@ -130,13 +148,21 @@ module _ (s : ℕ) (map : Map) (r : Registers) (m : Memory) where
     fetched = rw (read-virtual, ← h)
 
     pub exec-forbidden : forbiddenOf b s ≡ true → alarmed alarms.Mode b m ≡ execOf s map r m
-    exec-forbidden f = sym (fetched ∙ forbidden-known s m (viewBy s map m) r b (userMode s) (known b) (forbids-byte (userMode s) b l ∙ f))
+    exec-forbidden f =
+        sym (fetched ∙ forbidden-known s m (viewBy s map m) r b (userMode s) (known b)
+        (forbids-byte (userMode s) b l ∙ f))
 
     module _ (f : forbiddenOf b s ≡ false) where
-      pub exec-alarm : (n : Alarm) (x : ℕ) → alarm n x ≡ operandsOf (viewBy s map m) (knownRules (known b)) (past 1 r) → alarmed n x m ≡ execOf s map r m
-      exec-alarm n x a = sym (fetched ∙ alarm-known s m (viewBy s map m) r b (userMode s) (known b) n x (forbids-byte (userMode s) b l ∙ f) (sym a))
+      pub exec-alarm : (n : Alarm) (x : ℕ) → alarm n x ≡ operandsOf (viewBy s map m) (knownRules (known b)) (past 1 r)
+          → alarmed n x m ≡ execOf s map r m
+      exec-alarm n x a =
+          sym (fetched ∙ alarm-known s m (viewBy s map m) r b (userMode s) (known b) n x
+          (forbids-byte (userMode s) b l ∙ f) (sym a))
 
       pub exec-action : (o : Operands) → got o ≡ operandsOf (viewBy s map m) (knownRules (known b)) (past 1 r)
-          → actionEnd s m (viewBy s map m) (o .registers) (o .first) (o .target) (actionOf b (flagsOf s) (o .first) (o .second)) ≡ execOf s map r m
+          → actionEnd s m (viewBy s map m) (o .registers) (o .first) (o .target)
+          (actionOf b (flagsOf s) (o .first) (o .second)) ≡ execOf s map r m
       unfolding actionOf
-      exec-action o a = sym (fetched ∙ action-known s m (viewBy s map m) r b (userMode s) (known b) o (forbids-byte (userMode s) b l ∙ f) (sym a))
+      exec-action o a =
+          sym (fetched ∙ action-known s m (viewBy s map m) r b (userMode s) (known b) o
+          (forbids-byte (userMode s) b l ∙ f) (sym a))

@@ -1,4 +1,5 @@
--- The commands that only one mode allows are those of the bytes 0, 3 and 5: one test of each byte, which the prover computes.
+-- The commands that only one mode allows are those of the bytes 0, 3 and 5: one test of each byte,
+-- which the prover computes.
 use Prim.Native.Nat.{ℕ, _<_}
 use mathlib.Core.Path.{_≡_, refl}
 use mathlib.Core.Bool.{Bool, true, false, not, _||_}

@@ -8,7 +8,8 @@ use Rattle.machine.specs.Words.{pick, Memory, lengthOf}
 use Rattle.machine.specs.State.{Registers, reg, userMode, flagsOf, withFlags}
 use Rattle.machine.specs.Alarms.{OrAlarm, got, alarm}
 use Rattle.machine.specs.Map.{View, viewBy}
-use Rattle.machine.specs.Commands.{stored, pushed, poppedDone, called, returnedDone, Completion, done, ofMode, SystemCall, userCommand, KernelEffect, halts, resumes, kernelCommand}
+use Rattle.machine.specs.Commands.{stored, pushed, poppedDone, called, returnedDone, Completion, done, ofMode}
+use Rattle.machine.specs.Commands.{SystemCall, userCommand, KernelEffect, halts, resumes, kernelCommand}
 use Rattle.actions.specs.declared.Action.{Action}
 use Rattle.actions.specs.declared.Action.the-variants as action
 use Rattle.results.specs.Ends.{End, commandDone, systemCalled, halted, resumed, alarmed, doneEnd}

@@ -1,5 +1,5 @@
-// One command: byte, mode, operands, operation, writes. The working registers are lent; where the command alarms they are of no account, and the caller
-// hands back the copy from the start.
+// One command: byte, mode, operands, operation, writes. The working registers are lent; where the
+// command alarms they are of no account, and the caller hands back the copy from the start.
 ghost use mathlib.Core.Path.{_≡_};
 ghost use Rattle.commands.specs.Execution.{actionEnd, execOf};
 ghost use Rattle.forms.specs.Answers.{SmallTarget};
@@ -27,7 +27,8 @@ fn finish(
     what: Action,
 ) -> Out
     requires { ⌜ Fits map (now mem) × SmallTarget target ⌝ }
-    ensures { λ r. ⌜ outAs r (now (regs .exit)) (now (mem .exit)) ≡ actionEnd status (now (mem .entry)) (viewBy status map (now (mem .entry))) (now (regs .entry)) x target what ⌝ }
+    ensures { λ r. ⌜ outAs r (now (regs .exit)) (now (mem .exit))
+        ≡ actionEnd status (now (mem .entry)) (viewBy status map (now (mem .entry))) (now (regs .entry)) x target what ⌝ }
 {
     match what {
         Action::Give(size, v) => results::put(mem, regs, status, map, size, v, target),
@@ -52,7 +53,8 @@ fn finish(
 // The command at R15, by the lent table of rules. Where it alarms the registers are of no account.
 pub fn exec(mem: &mut [u8], regs: &mut [u32; 16], status: u32, map: Map, table: &[u16; 123]) -> Out
     requires { ⌜ Fits map (now mem) × (now table ≡ tableOf) ⌝ }
-    ensures { λ r. ⌜ outAs r (now (regs .exit)) (now (mem .exit)) ≡ execOf status map (now (regs .entry)) (now (mem .entry)) ⌝ }
+    ensures { λ r. ⌜ outAs r (now (regs .exit)) (now (mem .exit))
+        ≡ execOf status map (now (regs .entry)) (now (mem .entry)) ⌝ }
 {
     let pc = regs[15];
     let start = VirtualAddress(pc);

@@ -1,17 +1,20 @@
-// compare: plays the model's stored cases, from standard input, on the desk and compares what comes out.
+// compare: plays the model's stored cases, from standard input, on the desk and compares what comes
+// out.
 //
-// A case is a memory, a state and calls, with the model's answer to each call, its state after it, and its memory at
-// the end. Compared are refusals, events with their cause or stop number, the words that a kernel entry saves, the
-// steps that a run counts, the whole state after each call, and the whole memory after the last. A case that differs
-// prints a line with its first difference, cases and calls counted from 1:
+// A case is a memory, a state and calls, with the model's answer to each call, its state after it,
+// and its memory at the end. Compared are refusals, events with their cause or stop number, the
+// words that a kernel entry saves, the steps that a run counts, the whole state after each call,
+// and the whole memory after the last. A case that differs prints a line with its first difference,
+// cases and calls counted from 1:
 //
 //     case 17: call 3: state
 //
-// The last line is `N cases equal, M differ, K left out`; N, M and K add up to the cases that the header counts. Left
-// out are cases with more than 65,536 bytes of memory, cases stored in more than 262,144 bytes, and, where the input
-// ends too early, the case that it cuts and all after it. The input has the form that model/src/store.rs describes and
-// may have any length; bytes after the last case are not read. Input that does not start with a header prints only
-// `the input holds no cases`.
+// The last line is `N cases equal, M differ, K left out`; N, M and K add up to the cases that the
+// header counts. Left out are cases with more than 65,536 bytes of memory, cases stored in more
+// than 262,144 bytes, and, where the input ends too early, the case that it cuts and all after it.
+// The input has the form that model/src/store.rs describes and may have any length; bytes after the
+// last case are not read. Input that does not start with a header prints only `the input holds no
+// cases`.
 mod play;
 mod print;
 
@@ -40,7 +43,8 @@ fn least(a: usize, b: usize) -> usize
     b
 }
 
-// Reads at most n bytes of the input into the buffer. Answers how many it read, 0 where the input ends.
+// Reads at most n bytes of the input into the buffer. Answers how many it read, 0 where the input
+// ends.
 fn read(n: usize, buffer: &mut [u8]) -> usize
     ensures { λ r. ⌜ r ≤ n ⌝ }
 {

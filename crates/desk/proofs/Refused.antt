@@ -9,11 +9,13 @@ use Rattle.machine.specs.declared.Answer.the-variants.{Accepted, Refused}
 use Rattle.machine.specs.Words.{Memory}
 use Rattle.machine.specs.Map.{commit}
 use Rattle.machine.specs.Steps.{oneStep}
-use Rattle.machine.specs.Calls.{ran, unchanged, unlessRefused, stepRefusal, stepOutcome, stepOf, stepsOf, runUnless, runOf}
+use Rattle.machine.specs.Calls.{ran, unchanged, unlessRefused, stepRefusal, stepOutcome, stepOf, stepsOf, runUnless}
+use Rattle.machine.specs.Calls.{runOf}
 use Rattle.entry.specs.Replies.{stepped, shown}
 
 module _ (d : Desk) (m : Memory) where
-  pub refused-step : (k : Refusal) → stepRefusal d (length m) ≡ Refused k → stepped (record { answer = stepAnswer.Refused k; desk = d }) m ≡ stepOf d m
+  pub refused-step : (k : Refusal) → stepRefusal d (length m) ≡ Refused k
+      → stepped (record { answer = stepAnswer.Refused k; desk = d }) m ≡ stepOf d m
   unfolding stepOf stepOutcome unlessRefused unchanged commit
   refused-step k e = rw e
 

@@ -1,4 +1,5 @@
-// The MI desk: make a fresh one, step it, run it, request an interrupt level. Every call answers every input.
+// The MI desk: make a fresh one, step it, run it, request an interrupt level. Every call answers
+// every input.
 ghost use mathlib.Core.Path.{_≡_};
 ghost use lib.ListN.{length};
 ghost use Rattle.machine.specs.Calls.{freshOf, requestOf, runOf, stepOf};

@@ -11,7 +11,8 @@ use Rattle.machine.specs.State.{validUserStatus, controlBlockBytes, blockFits, 
 use Rattle.machine.specs.Map.{commit}
 use Rattle.machine.specs.Steps.{Outcome, stop, resume}
 
-pick-quiet : {m : Memory} (b : Bool) (x y : Outcome) → commit (x .writes) m ≡ m → commit (y .writes) m ≡ m → commit ((pick b x y) .writes) m ≡ m
+pick-quiet : {m : Memory} (b : Bool) (x y : Outcome) → commit (x .writes) m ≡ m → commit (y .writes) m ≡ m
+    → commit ((pick b x y) .writes) m ≡ m
 pick-quiet true x y e f = e
 pick-quiet false x y e f = f
 
@@ -19,4 +20,5 @@ pub resume-quiet : (d : Desk) (m : Memory) (a : RealAddress) → commit ((resume
 unfolding resume stop commit
 resume-quiet d m a =
     let map : Map = record { base = record { 0 = wordAt m (a .0 + 72) }; length = wordAt m (a .0 + 76) } in
-    pick-quiet (blockFits a controlBlockBytes (length m) && mapFits map (length m) && validUserStatus (wordAt m (a .0 + 64))) _ _ refl refl
+    pick-quiet (blockFits a controlBlockBytes (length m) && mapFits map (length m) && validUserStatus
+    (wordAt m (a .0 + 64))) _ _ refl refl

@@ -1,4 +1,5 @@
--- What a step hands back, with the memory that it leaves, from an outcome of `machine` or from a command's end.
+-- What a step hands back, with the memory that it leaves, from an outcome of `machine` or from a
+-- command's end.
 use Prim.Native.Nat.{ℕ, _+_, _≤_}
 use mathlib.Core.Bool.{false}
 use mathlib.Core.Path.{_≡_}
@@ -23,7 +24,8 @@ pub record Blocks (d : Desk) (m : Memory) : Type 0 where
   pub system : d .system .0 + systemBlockBytes ≤ length m
   pub control : d .control .0 + controlBlockBytes ≤ length m
 
--- a command that names a control block to resume from ran in kernel mode, so that its address is real
+-- a command that names a control block to resume from ran in kernel mode, so that its address is
+-- real
 abbrev pub ResumesInKernelMode : ℕ → Out → Type 0
 ResumesInKernelMode s (out.Done t) = Unit {0}
 ResumesInKernelMode s (out.System x) = Unit {0}
@@ -50,11 +52,14 @@ enteredBy d m c = shown (concluded d (systemBlockOf d m) c) m
 
 -- an alarm enters the kernel in user mode and stops the desk in kernel mode
 abbrev pub alarmedBy : Desk → Memory → Alarm → ℕ → Stepped
-alarmedBy d m n x = pick (userMode (d .status)) (enteredBy d m (enters (alarmCause n) (d .registers) x (d .pending))) (shown (stop (alarmNumber n) d) m)
+alarmedBy d m n x =
+    pick (userMode (d .status)) (enteredBy d m (enters (alarmCause n) (d .registers) x (d .pending)))
+    (shown (stop (alarmNumber n) d) m)
 
 -- a command's end, of desk d over memory m
 unfoldable pub concludedEnd : Desk → Memory → End → Stepped
-concludedEnd d m (commandDone r s n) = stepped (record { answer = stepAnswer.Done; desk = deskWith d r s (d .pending) (d .mark) }) n
+concludedEnd d m (commandDone r s n) =
+    stepped (record { answer = stepAnswer.Done; desk = deskWith d r s (d .pending) (d .mark) }) n
 concludedEnd d m (systemCalled x r n) = enteredBy d m (enters 1 r x (d .pending))
 concludedEnd d m (halted r n) = shown (halt r d) m
 concludedEnd d m (resumed x n) = shown (resume d m (realOf x)) m

@@ -1,7 +1,8 @@
 // What becomes of a command that did not just go on: kernel entries, RESUME, stops.
 ghost use mathlib.Core.Path.{_≡_};
 ghost use Prim.Native.Nat.{_+_, _^_, _≤_};
-ghost use Rattle.entry.specs.Replies.{Blocks, ResumesInKernelMode, alarmedBy, concludedEnd, enteredBy, replyOf, stepped};
+ghost use Rattle.entry.specs.Replies.{Blocks, ResumesInKernelMode, alarmedBy, concludedEnd, enteredBy, replyOf};
+ghost use Rattle.entry.specs.Replies.{stepped};
 ghost use Rattle.machine.specs.Alarms.{alarmNumber};
 ghost use Rattle.machine.specs.State.{deskWith, withoutLevel};
 ghost use Rattle.machine.specs.Steps.{enters, resume as resumeOf, stop as stopOf};
@@ -34,7 +35,8 @@ fn stop_for(d: Desk, a: Alarm) -> StepReply
     stop(d, a.number())
 }
 
-// A kernel entry: its cause, the registers to save, its argument and the pending set left. A stop with 16 where the system block's entry holds no valid kernel status.
+// A kernel entry: its cause, the registers to save, its argument and the pending set left. A stop
+// with 16 where the system block's entry holds no valid kernel status.
 fn enter(
     d: Desk,
     mem: &mut [u8],
@@ -44,7 +46,8 @@ fn enter(
     pending: u16,
 ) -> StepReply
     requires { ⌜ Blocks d (now mem) ⌝ }
-    ensures { λ r. ⌜ stepped r (now (mem .exit)) ≡ enteredBy d (now (mem .entry)) (enters cause registers argument pending) ⌝ }
+    ensures { λ r. ⌜ stepped r (now (mem .exit))
+        ≡ enteredBy d (now (mem .entry)) (enters cause registers argument pending) ⌝ }
 {
     let system = d.system;
     let status = blocks::entry_status(mem, system, cause);
@@ -65,7 +68,8 @@ fn enter(
     }
 }
 
-// RESUME from the control block at an address; a stop with 14 where that or the map does not fit, or the status is no valid user status.
+// RESUME from the control block at an address; a stop with 14 where that or the map does not fit,
+// or the status is no valid user status.
 fn resume(d: Desk, mem: &[u8], a: RealAddress) -> StepReply
     ensures { λ r. ⌜ r ≡ replyOf (resumeOf d (now (mem .entry)) a) ⌝ }
 {
@@ -110,7 +114,8 @@ fn alarm(d: Desk, mem: &mut [u8], a: Alarm, x: u32) -> StepReply
 
 // A command that ended quietly changes registers and status.
 fn done(d: Desk, registers: [u32; 16], status: u32) -> StepReply
-    ensures { λ r. ⌜ r ≡ record { answer = StepAnswer.Done; desk = deskWith d registers status (d .pending) (d .mark) } ⌝ }
+    ensures { λ r. ⌜ r ≡ record
+        { answer = StepAnswer.Done; desk = deskWith d registers status (d .pending) (d .mark) } ⌝ }
 {
     let mark = d.mark;
     let desk = d.with(registers, status, d.pending, mark);
@@ -123,7 +128,8 @@ fn done(d: Desk, registers: [u32; 16], status: u32) -> StepReply
 // What becomes of a command of desk d that ended so, with these registers.
 pub fn conclude(d: Desk, mem: &mut [u8], work: [u32; 16], out: Out) -> StepReply
     requires { ⌜ Blocks d (now mem) × ResumesInKernelMode (d .status) out ⌝ }
-    ensures { λ r. ⌜ stepped r (now (mem .exit)) ≡ concludedEnd d (now (mem .entry)) (outAs out work (now (mem .entry))) ⌝ }
+    ensures { λ r. ⌜ stepped r (now (mem .exit))
+        ≡ concludedEnd d (now (mem .entry)) (outAs out work (now (mem .entry))) ⌝ }
 {
     match out {
         Out::Done(s) => done(d, work, s),
@@ -143,7 +149,8 @@ pub fn conclude(d: Desk, mem: &mut [u8], work: [u32; 16], out: Out) -> StepReply
 // The level that is due is entered and its pending bit cleared.
 pub fn enter_level(d: Desk, mem: &mut [u8], level: u32) -> StepReply
     requires { ⌜ Blocks d (now mem) × (level ≤ 15) × (2 ^ level ≤ d .pending) ⌝ }
-    ensures { λ r. ⌜ stepped r (now (mem .exit)) ≡ enteredBy d (now (mem .entry)) (enters (16 + level) (d .registers) level (withoutLevel (d .pending) level)) ⌝ }
+    ensures { λ r. ⌜ stepped r (now (mem .exit))
+        ≡ enteredBy d (now (mem .entry)) (enters (16 + level) (d .registers) level (withoutLevel (d .pending) level)) ⌝ }
 {
     let registers = d.registers;
     let left = levels::without_level(d.pending, level);

@@ -26,9 +26,12 @@ module _ {s : ℕ} {map : Map} {m : Memory} {x : VirtualAddress} where
       let w0 : wrap (x .0) ≡ x .0 = omega arith in
       let w1 : wrap (x .0 + 1) ≡ x .0 + 1 = omega arith in
       let w2 : wrap (x .0 + 2) ≡ x .0 + 2 = omega arith in
-      let first : readFrom v Fetch 1 (x .0) 0 ≡ got form = read-page f 1 (omega arith) ∙ ap got (sym (ef ∙ one-byte-value m (a .0))) in
-      let second : readFrom v Fetch 1 (x .0 + 1) 0 ≡ got pair = read-from f 1 1 0 (omega arith) ∙ ap got (sym (ep ∙ one-byte-value m (a .0 + 1))) in
-      let third : readFrom v Fetch 4 (x .0 + 2) 0 ≡ got z = read-from f 4 2 0 (omega arith) ∙ ap got (sym (ez ∙ four-byte-value m (a .0 + 2))) in
+      let first : readFrom v Fetch 1 (x .0) 0 ≡ got form = read-page f 1 (omega arith) ∙ ap got
+      (sym (ef ∙ one-byte-value m (a .0))) in
+      let second : readFrom v Fetch 1 (x .0 + 1) 0 ≡ got pair = read-from f 1 1 0 (omega arith) ∙ ap got
+      (sym (ep ∙ one-byte-value m (a .0 + 1))) in
+      let third : readFrom v Fetch 4 (x .0 + 2) 0 ≡ got z = read-from f 4 2 0 (omega arith) ∙ ap got
+      (sym (ez ∙ four-byte-value m (a .0 + 2))) in
       rw (w0, w1, w2, first, second, third)
 
   pub fields-alarm : {n : Alarm} → Alarms s map m x Fetch n → alarm n (x .0) ≡ fieldsAt (viewBy s map m) (x .0)

@@ -1,8 +1,10 @@
-// The bytes of a command: its command byte, and the six bytes of each operand. The lookup of the command byte answers for the operands in its page.
+// The bytes of a command: its command byte, and the six bytes of each operand. The lookup of the
+// command byte answers for the operands in its page.
 ghost use mathlib.Core.Path.{_≡_};
 ghost use Prim.Native.Nat.{_+_, _≤_};
 ghost use lib.ListN.{length};
-ghost use Rattle.fetches.specs.Answers.{ByteOrAlarm, FetchedFrom, PairOrAlarm, PlaceOrAlarm, commandByteAs, operandBytesAs, operandBytesAt};
+ghost use Rattle.fetches.specs.Answers.{ByteOrAlarm, FetchedFrom, PairOrAlarm, PlaceOrAlarm, commandByteAs};
+ghost use Rattle.fetches.specs.Answers.{operandBytesAs, operandBytesAt};
 ghost use Rattle.lookup.specs.Answers.{Fits};
 ghost use Rattle.machine.specs.Map.{readBytes, viewBy};
 ghost use Rattle.machine.specs.Operands.{fieldsAt};
@@ -103,7 +105,8 @@ fn fields_anew(mem: &[u8], status: u32, map: Map, x: VirtualAddress) -> OperandB
     fields_bytewise(mem, status, map, x)
 }
 
-// The six bytes of an operand, after a byte that was fetched: in that byte's page its lookup answers for them too.
+// The six bytes of an operand, after a byte that was fetched: in that byte's page its lookup
+// answers for them too.
 pub fn fields(
     mem: &[u8],
     status: u32,

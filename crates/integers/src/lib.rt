@@ -58,7 +58,8 @@ fn differ(s: bool, t: bool) -> bool
 
 // Of two numbers of the size exactly one is negative.
 pub fn signs_differ(size: Size, x: u32, y: u32) -> bool
-    ensures { λ r. ⌜ r ≡ pick (negative (lengthOf size) x) (not (negative (lengthOf size) y)) (negative (lengthOf size) y) ⌝ }
+    ensures { λ r. ⌜ r ≡ pick (negative (lengthOf size) x) (not (negative (lengthOf size) y))
+        (negative (lengthOf size) y) ⌝ }
 {
     differ(is_negative(size, x), is_negative(size, y))
 }

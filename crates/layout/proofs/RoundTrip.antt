@@ -91,7 +91,8 @@ packed-unpacked b l small =
 
 -- ---- Words, their bytes, and the words again
 
--- a desk of 16 registers whose numbers have room in their bytes, not stopped with the number that says that it runs
+-- a desk of 16 registers whose numbers have room in their bytes, not stopped with the number that
+-- says that it runs
 pub record Held (d : Desk) : Type 0 where
   pub sixteen : length (d .registers) ≡ 16
   pub words : (i : ℕ) → getD (wordsOf d) i 0 < 0x1_0000_0000

@@ -1,4 +1,5 @@
--- The state of a desk as 90 bytes, each value highest byte first. Every 90 bytes are one state, no two the same.
+-- The state of a desk as 90 bytes, each value highest byte first. Every 90 bytes are one state, no
+-- two the same.
 --
 --    0  R0 to R15, four bytes each
 --   64  status word

@@ -25,9 +25,12 @@ abbrev pub lookupAs : Memory → Lookup → OrAlarm Found
 lookupAs m (lookup.At a) = got (foundAt m a)
 lookupAs m (lookup.Alarm x n) = alarm n (x .0)
 
--- in every memory of whole frames, in either mode and for every reason: where the byte at start is found at that place, the byte at x is found at a
-pub record FoundFrom (start : VirtualAddress) (found : RealAddress) (x : VirtualAddress) (a : RealAddress) : Type 0 where
-  pub hit : (s : ℕ) (map : Map) (m : Memory) (w : Access) → length m % 512 ≡ 0 → viewBy s map m start w ≡ got (foundAt m found) → viewBy s map m x w ≡ got (foundAt m a)
+-- in every memory of whole frames, in either mode and for every reason: where the byte at start is
+-- found at that place, the byte at x is found at a
+pub record FoundFrom (start : VirtualAddress) (found : RealAddress) (x : VirtualAddress)
+    (a : RealAddress) : Type 0 where
+  pub hit : (s : ℕ) (map : Map) (m : Memory) (w : Access) → length m % 512 ≡ 0
+      → viewBy s map m start w ≡ got (foundAt m found) → viewBy s map m x w ≡ got (foundAt m a)
 
 -- n bytes from x on lie in the page, and the first is found so
 abbrev pub FoundBeside : VirtualAddress → RealAddress → VirtualAddress → ℕ → Neighbour → Type 0

@@ -1,5 +1,6 @@
-// The map: every step from a virtual address to a frame number and a real address. One byte is looked up in the mode that the status tells; a byte beside one
-// that was looked up is found from it; in kernel mode an address is real.
+// The map: every step from a virtual address to a frame number and a real address. One byte is
+// looked up in the mode that the status tells; a byte beside one that was looked up is found from
+// it; in kernel mode an address is real.
 ghost use mathlib.Core.Path.{_≡_};
 ghost use mathlib.Core.Bool.{false};
 ghost use Prim.Native.Nat.{_<_, _≤_};
@@ -46,7 +47,8 @@ fn look_mapped(mem: &[u8], map: Map, x: VirtualAddress, why: Access) -> Lookup
     if e < 0x8000_0000 {
         return Lookup::Alarm(x, Alarm::Absent);
     }
-    // The forbidden bits stay above the frame number: with one of them set it is past every memory, so one test is 10.
+    // The forbidden bits stay above the frame number: with one of them set it is past every memory,
+    // so one test is 10.
     let f = e % 0x4000_0000;
     if mem.len() / 512 <= f as usize {
         return Lookup::Alarm(x, Alarm::MapEntry);
@@ -85,8 +87,8 @@ pub fn look(mem: &[u8], status: u32, map: Map, x: VirtualAddress, why: Access) -
     Lookup::Alarm(x, Alarm::Address)
 }
 
-// Where the byte at x lies, if x is not before start and the n bytes from x on lie in the page of start, whose byte lies
-// at found. Elsewhere promises nothing: the caller looks the byte up.
+// Where the byte at x lies, if x is not before start and the n bytes from x on lie in the page of
+// start, whose byte lies at found. Elsewhere promises nothing: the caller looks the byte up.
 pub fn beside(start: VirtualAddress, found: RealAddress, x: VirtualAddress, n: u32) -> Neighbour
     requires { ⌜ (found .0 ≤ 16777216) × (1 ≤ n) × (n ≤ 512) ⌝ }
     ensures { λ r. ⌜ FoundBeside start found x n r ⌝ }

@@ -1,4 +1,5 @@
--- A step or run that is not refused: what that tells of the desk, and that the desk which an accepted step leaves is accepted or stopped.
+-- A step or run that is not refused: what that tells of the desk, and that the desk which an
+-- accepted step leaves is accepted or stopped.
 use Prim.Native.Nat.{ℕ, zero, suc, _+_, _-_, _*_, _/_, _%_, _^_, _≤_}
 use mathlib.Core.Path.{_≡_, refl}
 use mathlib.Core.Bool.{Bool, true, false, not, _&&_}
@@ -15,12 +16,18 @@ use Rattle.machine.specs.declared.Desk.{Desk}
 use Rattle.machine.specs.declared.Refusal.{Refusal}
 use Rattle.machine.specs.declared.Answer.the-variants.{Accepted}
 use Rattle.machine.specs.Words.{pick, Memory, wordAt}
-use Rattle.machine.specs.State.{Registers, allowedLength, userMode, levelOf, flagsOf, withFlags, validStatus, validUserStatus, validKernelStatus, isPending, withoutLevel, systemBlockOf, entryR15, entryStatus, blockFits, isRunning}
+use Rattle.machine.specs.State.{Registers, allowedLength, userMode, levelOf, flagsOf, withFlags, validStatus}
+use Rattle.machine.specs.State.{validUserStatus, validKernelStatus, isPending, withoutLevel, systemBlockOf}
+use Rattle.machine.specs.State.{entryR15, entryStatus, blockFits, isRunning}
 use Rattle.machine.specs.Alarms.{alarmNumber, alarmCause, OrAlarm, got, alarm}
 use Rattle.machine.specs.Map.{View, realOf, viewOf, RealWrites, located, commit}
-use Rattle.machine.specs.Commands.{Done, Completion, done, ofMode, SystemCall, userCommand, KernelEffect, halts, resumes}
-use Rattle.machine.specs.Steps.{Outcome, Plan, enters, stop, halt, completed, due, userWritten, ofUserCommand, interrupted, userPlan, enterIf, concluded, userStep, resume, kernelWritten, ofKernelCommand, kernelStep, oneStep}
-use Rattle.machine.specs.Calls.{passes1, passes2, passes3, passes4, passes5, firstRefused, stepRefusal, unlessRefused, stepOutcome, ran, stepsOf}
+use Rattle.machine.specs.Commands.{Done, Completion, done, ofMode, SystemCall, userCommand, KernelEffect, halts}
+use Rattle.machine.specs.Commands.{resumes}
+use Rattle.machine.specs.Steps.{Outcome, Plan, enters, stop, halt, completed, due, userWritten, ofUserCommand}
+use Rattle.machine.specs.Steps.{interrupted, userPlan, enterIf, concluded, userStep, resume, kernelWritten}
+use Rattle.machine.specs.Steps.{ofKernelCommand, kernelStep, oneStep}
+use Rattle.machine.specs.Calls.{passes1, passes2, passes3, passes4, passes5, firstRefused, stepRefusal}
+use Rattle.machine.specs.Calls.{unlessRefused, stepOutcome, ran, stepsOf}
 use Rattle.machine.proofs.Widths.{and-true}
 
 -- ---- Each refusal's test has nothing to refuse
@@ -33,7 +40,8 @@ pub record Passes (d : Desk) (n : ℕ) : Type 0 where
   pub state : passes5 d ≡ true
   pub mark : isRunning (d .mark) ≡ true
 
-first-passed : (b : Bool) (k : Refusal) (ts : List (Bool × Refusal)) → firstRefused ((b, k) ∷ ts) ≡ Accepted → (b ≡ true) × (firstRefused ts ≡ Accepted)
+first-passed : (b : Bool) (k : Refusal) (ts : List (Bool × Refusal)) → firstRefused ((b, k) ∷ ts) ≡ Accepted
+    → (b ≡ true) × (firstRefused ts ≡ Accepted)
 unfolding firstRefused
 first-passed true k ts e = (refl, e)
 first-passed false k ts e = absurd (let z : _≡_ {A = ℕ} 0 1 = cc in omega arith)
@@ -47,7 +55,14 @@ passes d n e =
     let fourth = first-passed _ _ _ (third .1) in
     let fifth = first-passed _ _ _ (fourth .1) in
     let last = first-passed _ _ _ (fifth .1) in
-    record { length = first .0; system = second .0; control = third .0; map = fourth .0; state = fifth .0; mark = last .0 }
+    record {
+      length = first .0;
+      system = second .0;
+      control = third .0;
+      map = fourth .0;
+      state = fifth .0;
+      mark = last .0;
+    }
 
 pub accepted : (d : Desk) (n : ℕ) → Passes d n → stepRefusal d n ≡ Accepted
 unfolding stepRefusal firstRefused
@@ -136,11 +151,13 @@ module _ (d : Desk) (n : ℕ) (p : Passes d n) where
     mark = e;
   }
 
-  enter-lasts : (block : Memory) (i : ℕ) (r : Registers) (x q : ℕ) → not (isPending q 0) ≡ true → Lasts n (concluded d block (enters i r x q))
+  enter-lasts : (block : Memory) (i : ℕ) (r : Registers) (x q : ℕ) → not (isPending q 0) ≡ true
+      → Lasts n (concluded d block (enters i r x q))
   unfolding concluded enterIf passes5
   enter-lasts block i r x q free = go (validKernelStatus (entryStatus block i)) refl
     where
-      go : (b : Bool) → validKernelStatus (entryStatus block i) ≡ b → Lasts n (enterIf b d i r x q (entryR15 block i) (entryStatus block i))
+      go : (b : Bool) → validKernelStatus (entryStatus block i) ≡ b
+          → Lasts n (enterIf b d i r x q (entryR15 block i) (entryStatus block i))
       go true v e = record {
         length = p .length;
         system = p .system;
@@ -151,21 +168,26 @@ module _ (d : Desk) (n : ℕ) (p : Passes d n) where
       }
       go false v e = stop-lasts 16 e
 
-  written-lasts : (block : Memory) (c : Done) (t : OrAlarm RealWrites) → Lasts n (concluded d block (userWritten (d .registers) (d .status) (d .pending) c t))
+  written-lasts : (block : Memory) (c : Done) (t : OrAlarm RealWrites)
+      → Lasts n (concluded d block (userWritten (d .registers) (d .status) (d .pending) c t))
   unfolding userWritten
   written-lasts block c (got ws) = unfold concluded in go-lasts (c .registers) (c .flags) ws
   written-lasts block c (alarm k x) = enter-lasts block (alarmCause k) (d .registers) x (d .pending) level-0
 
-  command-lasts : (block : Memory) (v : View) (t : OrAlarm (Completion SystemCall)) → Lasts n (concluded d block (ofUserCommand (d .registers) (d .status) (d .pending) v t))
+  command-lasts : (block : Memory) (v : View) (t : OrAlarm (Completion SystemCall))
+      → Lasts n (concluded d block (ofUserCommand (d .registers) (d .status) (d .pending) v t))
   unfolding ofUserCommand
   command-lasts block v (got (done c)) = written-lasts block c (located v (c .writes))
   command-lasts block v (got (ofMode c)) = enter-lasts block 1 (c .registers) (c .argument) (d .pending) level-0
   command-lasts block v (alarm k x) = enter-lasts block (alarmCause k) (d .registers) x (d .pending) level-0
 
-  interrupt-lasts : (block : Memory) (k : ℕ) (c : Plan) → Lasts n (concluded d block c) → Lasts n (concluded d block (interrupted k (d .registers) (d .pending) c))
+  interrupt-lasts : (block : Memory) (k : ℕ) (c : Plan) → Lasts n (concluded d block c)
+      → Lasts n (concluded d block (interrupted k (d .registers) (d .pending) c))
   unfolding interrupted
   interrupt-lasts block zero c h = h
-  interrupt-lasts block (suc k) c h = enter-lasts block (16 + suc k) (d .registers) (suc k) (withoutLevel (d .pending) (suc k)) (level-0-stays (d .pending) k level-0)
+  interrupt-lasts block (suc k) c h =
+      enter-lasts block (16 + suc k) (d .registers) (suc k) (withoutLevel (d .pending) (suc k))
+      (level-0-stays (d .pending) k level-0)
 
   kernel-written-lasts : (c : Done) (t : OrAlarm RealWrites) → Lasts n (kernelWritten d c t)
   unfolding kernelWritten
@@ -199,7 +221,8 @@ module _ (d : Desk) (m : Memory) (p : Passes d (length m)) where
   user-lasts v block =
       let r = d .registers in
       let s = d .status in
-      interrupt-lasts d (length m) p block (due 15 (d .pending) (levelOf s)) _ (command-lasts d (length m) p block v (userCommand v r (flagsOf s)))
+      interrupt-lasts d (length m) p block (due 15 (d .pending) (levelOf s)) _
+      (command-lasts d (length m) p block v (userCommand v r (flagsOf s)))
 
   -- an accepted step leaves a desk that is accepted, or stopped
   pub step-lasts : Lasts (length m) (oneStep d m)
@@ -207,7 +230,8 @@ module _ (d : Desk) (m : Memory) (p : Passes d (length m)) where
   step-lasts =
       let v = viewOf d m in
       let block = systemBlockOf d m in
-      by-pick (Lasts (length m)) (userMode (d .status)) (userStep d v block) (kernelStep d v m) (λ t. user-lasts v block) (kernel-lasts v _)
+      by-pick (Lasts (length m)) (userMode (d .status)) (userStep d v block) (kernelStep d v m)
+      (λ t. user-lasts v block) (kernel-lasts v _)
 
   -- ---- Runs
 
@@ -216,11 +240,13 @@ module _ (d : Desk) (m : Memory) (p : Passes d (length m)) where
   passed-step = rw (accepted d (length m) p)
 
   -- one step more
-  pub steps-more : (i k : ℕ) → stepsOf (suc i) k d m ≡ stepsOf i (suc k) (oneStep d m .desk) (commit (oneStep d m .writes) m)
+  pub steps-more : (i k : ℕ) → stepsOf (suc i) k d m ≡ stepsOf i (suc k) (oneStep d m .desk)
+      (commit (oneStep d m .writes) m)
   unfolding stepsOf
   steps-more i k = rw (p .mark, passed-step)
 
-pub steps-stopped : (i k : ℕ) (d : Desk) (m : Memory) → isRunning (d .mark) ≡ false → stepsOf i k d m ≡ ran Accepted k d m
+pub steps-stopped : (i k : ℕ) (d : Desk) (m : Memory) → isRunning (d .mark) ≡ false
+    → stepsOf i k d m ≡ ran Accepted k d m
 unfolding stepsOf
 steps-stopped zero k d m e = refl
 steps-stopped (suc i) k d m e = rw e

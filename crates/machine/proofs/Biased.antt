@@ -1,4 +1,5 @@
--- Signed order, and overflow of sum and difference, by unsigned arithmetic on biased numbers of L bytes, for any L.
+-- Signed order, and overflow of sum and difference, by unsigned arithmetic on biased numbers of L
+-- bytes, for any L.
 use Prim.Native.Nat.{ℕ, suc, _+_, _-_, _%_, _≤_, _<_}
 use mathlib.Core.Path.{_≡_, ap₂, _∙_}
 use mathlib.Core.Bool.{_&&_}
@@ -37,9 +38,11 @@ module _ (L a b : ℕ) (wide : 1 ≤ L) (fa : a < span L) (fb : b < span L) wher
   pub biased-order : ltZ (signed L a) (signed L b) ≡ ltb (biased L a) (biased L b)
   biased-order =
       gap-ltZ (biased-gap L a wide fa) (biased-gap L b wide fb)
-      ∙ leb-same (suc (biased L a + half L)) (biased L b + half L) (suc (biased L a)) (biased L b) (omega arith) (omega arith)
+      ∙ leb-same (suc (biased L a + half L)) (biased L b + half L) (suc (biased L a)) (biased L b) (omega arith)
+      (omega arith)
 
-  pub biased-sum-fits : fits L (signed L b +ℤ signed L a) ≡ (leb (half L) (biased L b + biased L a) && ltb (biased L b + biased L a) (half L + span L))
+  pub biased-sum-fits : fits L (signed L b +ℤ signed L a)
+      ≡ (leb (half L) (biased L b + biased L a) && ltb (biased L b + biased L a) (half L + span L))
   biased-sum-fits =
       let twice = half-twice L wide in
       let s = biased L b + biased L a in
@@ -48,7 +51,8 @@ module _ (L a b : ℕ) (wide : 1 ≤ L) (fa : a < span L) (fb : b < span L) wher
       (leb-same (half L + half L) (s + half L) (half L) s (omega arith) (omega arith))
       (leb-same (suc s) (half L + (half L + half L)) (suc s) (half L + span L) (omega arith) (omega arith))
 
-  pub biased-difference-fits : fits L (signed L b -ℤ signed L a) ≡ (leb (biased L a) (biased L b + half L) && ltb (biased L b) (half L + biased L a))
+  pub biased-difference-fits : fits L (signed L b -ℤ signed L a)
+      ≡ (leb (biased L a) (biased L b + half L) && ltb (biased L b) (half L + biased L a))
   biased-difference-fits =
       let x = biased L a in
       let y = biased L b in

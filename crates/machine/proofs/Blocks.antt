@@ -1,4 +1,5 @@
--- Blocks of words in memory: what is written word by word, laid into a row and read word by word, and a word of the system block.
+-- Blocks of words in memory: what is written word by word, laid into a row and read word by word,
+-- and a word of the system block.
 use Prim.Native.Nat.{ℕ, zero, suc, _+_, _-_, _*_, _/_, _%_, _≤_, _<_}
 use mathlib.Core.Path.{_≡_, refl, ap, _∙_}
 use mathlib.Core.List.{List, [], _∷_, _++_, append-assoc, append-nil}
@@ -42,20 +43,23 @@ sets-append (x ∷ xs) ys bs a =
     rw (← e) (sets-append xs ys (set bs a x) (suc a))
 
 -- the first word, then the others
-sets-words : (w : ℕ) (ws bs : List ℕ) (a : ℕ) → sets bs a (bytesOfWords (w ∷ ws)) ≡ sets (sets bs a (bytesOf 4 w)) (a + 4) (bytesOfWords ws)
+sets-words : (w : ℕ) (ws bs : List ℕ) (a : ℕ)
+    → sets bs a (bytesOfWords (w ∷ ws)) ≡ sets (sets bs a (bytesOf 4 w)) (a + 4) (bytesOfWords ws)
 unfolding bytesOfWords
 sets-words w ws bs a = rw bytes-length at (sets-append (bytesOf 4 w) (bytesOfWords ws) bs a)
 
 -- word i of some, then those after it
 pub sets-next : (i : ℕ) (ws bs : List ℕ) (a : ℕ) → i < length ws
-    → sets bs (a + 4 * i) (bytesOfWords (drop i ws)) ≡ sets (sets bs (a + 4 * i) (bytesOf 4 (getD ws i 0))) (a + 4 * (i + 1)) (bytesOfWords (drop (i + 1) ws))
+    → sets bs (a + 4 * i) (bytesOfWords (drop i ws)) ≡ sets (sets bs (a + 4 * i) (bytesOf 4 (getD ws i 0)))
+    (a + 4 * (i + 1)) (bytesOfWords (drop (i + 1) ws))
 sets-next i ws bs a h =
     let e : a + 4 * (i + 1) ≡ a + 4 * i + 4 = omega arith in
     rw (add-one i, drop-cons ws i 0 h, ← add-one i, e) (sets-words (getD ws i 0) _ bs (a + 4 * i))
 
 -- some words, then two more
 pub sets-two-more : (ws : List ℕ) (v w : ℕ) (bs : List ℕ) (a n : ℕ) → length ws ≡ n
-    → sets bs a (bytesOfWords (ws ++ v ∷ w ∷ [])) ≡ sets (sets (sets bs a (bytesOfWords ws)) (a + 4 * n) (bytesOf 4 v)) (a + (4 * n + 4)) (bytesOf 4 w)
+    → sets bs a (bytesOfWords (ws ++ v ∷ w ∷ [])) ≡ sets
+    (sets (sets bs a (bytesOfWords ws)) (a + 4 * n) (bytesOf 4 v)) (a + (4 * n + 4)) (bytesOf 4 w)
 sets-two-more ws v w bs a n l =
     let e : a + length (bytesOfWords ws) ≡ a + 4 * n = omega (arith, words-length ws) in
     let f : a + 4 * n + 4 ≡ a + (4 * n + 4) = omega arith in
@@ -63,7 +67,8 @@ sets-two-more ws v w bs a n l =
 
 -- a value that is laid into a row of bytes at its start
 pub bytes-first : (L x : ℕ) (bs : List ℕ) → L ≤ length bs → take L (sets bs 0 (bytesOf L x)) ≡ bytesOf L x
-bytes-first L x bs l = rw (sets-eq (bytesOf L x) bs 0 (omega (arith, bytes-length L x))) (take-at (bytesOf L x) _ L (bytes-length L x))
+bytes-first L x bs l =
+    rw (sets-eq (bytesOf L x) bs 0 (omega (arith, bytes-length L x))) (take-at (bytesOf L x) _ L (bytes-length L x))
 
 -- words that fill a row of bytes from its start
 pub row-filled : (ws bs : List ℕ) → 4 * length ws ≡ length bs → sets bs 0 (bytesOfWords ws) ≡ bytesOfWords ws
@@ -88,7 +93,13 @@ module _ (m : Memory) (s i : ℕ) where
   pub block-word : i + 4 ≤ 256 → wordAt (take 256 (drop s m)) i ≡ wordAt m (s + i)
   unfolding wordAt
   block-word h =
-      rw (byte i (s + i) (omega arith), byte (i + 1) (s + i + 1) (omega arith), byte (i + 2) (s + i + 2) (omega arith), byte (i + 3) (s + i + 3) (omega arith))
+      rw (
+        byte i (s + i) (omega arith),
+        byte (i + 1) (s + i + 1) (omega arith),
+        byte (i + 2) (s + i + 2)
+            (omega arith),
+        byte (i + 3) (s + i + 3) (omega arith),
+      )
     where
       byte : (j k : ℕ) → (j < 256) × (s + j ≡ k) → byteAt (take 256 (drop s m)) j ≡ byteAt m k
       byte j k e = getD-take 256 (drop s m) j 0 (e .0) ∙ getD-drop s m j 0 ∙ ap (byteAt m) (e .1)
@@ -96,7 +107,8 @@ module _ (m : Memory) (s i : ℕ) where
   -- past the block
   pub no-word : 256 ≤ i → wordAt (take 256 (drop s m)) i ≡ 0
   unfolding wordAt
-  no-word h = rw (byte i (omega arith), byte (i + 1) (omega arith), byte (i + 2) (omega arith), byte (i + 3) (omega arith))
+  no-word h =
+      rw (byte i (omega arith), byte (i + 1) (omega arith), byte (i + 2) (omega arith), byte (i + 3) (omega arith))
     where
       byte : (j : ℕ) → 256 ≤ j → byteAt (take 256 (drop s m)) j ≡ 0
       byte j e = List·getD-eq-default (take 256 (drop s m)) 0 {n = j} (simp length-take (omega arith))

@@ -1,5 +1,6 @@
--- The L bytes of a number, highest first, for any L: how many they are, how large, and that they read back; and a register of which L bytes are
--- written (document 000, 1.2; document 01, "B and H in a register are its low end; a write keeps the rest").
+-- The L bytes of a number, highest first, for any L: how many they are, how large, and that they
+-- read back; and a register of which L bytes are written (document 000, 1.2; document 01, "B and H
+-- in a register are its low end; a write keeps the rest").
 use Prim.Native.Nat.{ℕ, zero, suc, _+_, _*_, _/_, _%_, _<_}
 use mathlib.Core.Path.{_≡_, refl, ap, _∙_}
 use mathlib.Core.List.{List, [], _∷_}
@@ -38,7 +39,8 @@ bytes-joined (suc L) acc x =
     bytes-joined L (acc * 256 + x / span L % 256) x ∙ rw (pow-succ' 256 L, e) (omega arith)
 
 -- a word is its four bytes so read
-pub word-joined : (m : Memory) (a : ℕ) → wordAt m a ≡ joined 0 (byteAt m a ∷ byteAt m (a + 1) ∷ byteAt m (a + 2) ∷ byteAt m (a + 3) ∷ [])
+pub word-joined : (m : Memory) (a : ℕ)
+    → wordAt m a ≡ joined 0 (byteAt m a ∷ byteAt m (a + 1) ∷ byteAt m (a + 2) ∷ byteAt m (a + 3) ∷ [])
 unfolding wordAt joined
 word-joined m a = omega arith
 

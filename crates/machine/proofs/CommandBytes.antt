@@ -1,5 +1,5 @@
--- Facts of a byte from what the prover computes of the table: equal values at each byte of an interval, and no command
--- between the rows.
+-- Facts of a byte from what the prover computes of the table: equal values at each byte of an
+-- interval, and no command between the rows.
 use Prim.Native.Nat.{ℕ, zero, suc, _+_, _≤_, _<_}
 use mathlib.Core.Path.{_≡_, refl}
 use mathlib.Core.Bool.{Bool, true, false, _&&_, _||_, and-false}

@@ -1,4 +1,5 @@
--- An integer as the difference of two natural numbers, `Gap z a b`: sums, products, order and residue of integers, as laws on natural numbers.
+-- An integer as the difference of two natural numbers, `Gap z a b`: sums, products, order and
+-- residue of integers, as laws on natural numbers.
 use Prim.Native.Nat.{ℕ, zero, suc, _+_, _-_, _*_, _/_, _%_, _≤_, _<_}
 use mathlib.Core.Path.{_≡_, refl, sym, ap, _∙_}
 use mathlib.Core.Bool.{Bool, true, false, cond}
@@ -87,10 +88,12 @@ gap-leZ {z = negsuc m} {w = pos n} {a} {b} {c} {d} h k = sym (le-leb (a + d) (c 
 gap-leZ {z = negsuc m} {w = negsuc n} {a} {b} {c} {d} h k = leb-same n m (a + d) (c + b) (omega arith) (omega arith)
 
 pub gap-ltZ : {z w : ℤ} {a b c d : ℕ} → Gap z a b → Gap w c d → ltZ z w ≡ ltb (a + d) (c + b)
-gap-ltZ {z = pos m} {w = pos n} {a} {b} {c} {d} h k = leb-same (suc m) n (suc (a + d)) (c + b) (omega arith) (omega arith)
+gap-ltZ {z = pos m} {w = pos n} {a} {b} {c} {d} h k = leb-same (suc m) n (suc (a + d)) (c + b) (omega arith)
+    (omega arith)
 gap-ltZ {z = pos m} {w = negsuc n} {a} {b} {c} {d} h k = sym (lt-leb (suc (a + d)) (c + b) (omega arith))
 gap-ltZ {z = negsuc m} {w = pos n} {a} {b} {c} {d} h k = sym (le-leb (suc (a + d)) (c + b) (omega arith))
-gap-ltZ {z = negsuc m} {w = negsuc n} {a} {b} {c} {d} h k = leb-same (suc n) m (suc (a + d)) (c + b) (omega arith) (omega arith)
+gap-ltZ {z = negsuc m} {w = negsuc n} {a} {b} {c} {d} h k = leb-same (suc n) m (suc (a + d)) (c + b) (omega arith)
+    (omega arith)
 
 -- ---- Residue
 

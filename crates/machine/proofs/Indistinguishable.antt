@@ -15,7 +15,8 @@ use Rattle.machine.proofs.Writes.{Each, each-map, commit-length, commit
 use Rattle.machine.proofs.Views.{view-same, located-writable}
 use Rattle.machine.proofs.UserCalls.{Kept, FitOutcome, user-step-fit, unless-fit, request-fit}
 
--- the map and the frames are those of desk o over m; desk d, some calls later, stands over x and over y
+-- the map and the frames are those of desk o over m; desk d, some calls later, stands over x and
+-- over y
 pub record Indistinguishable (o : Desk) (m : Memory) (d : Desk) (x y : Memory) : Type 0 where
   pub kept : Kept o d
   pub lengthx : length x ≡ length m
@@ -38,7 +39,8 @@ module _ (o : Desk) (m : Memory) (d : Desk) where
 
   pub near-view : (x y : Memory) → Indistinguishable o m d x y → viewOf d x ≡ viewOf d y
   near-view x y h =
-      user-view x (h .kept) ∙ view-same (o .map) m x y (h .lengthx) (h .mapx) (h .lengthy) (h .mapy) (h .frames) ∙ sym (user-view y (h .kept))
+      user-view x (h .kept) ∙ view-same (o .map) m x y (h .lengthx) (h .mapx) (h .lengthy) (h .mapy) (h .frames)
+      ∙ sym (user-view y (h .kept))
 
   pub call-fit : (c : Call) (x y : Memory) → Indistinguishable o m d x y → FitOutcome d (Free o m) (outcomeOf c d x)
   unfolding stepOutcome oneStep
@@ -49,15 +51,25 @@ module _ (o : Desk) (m : Memory) (d : Desk) where
   call-fit (request level) x y h = request-fit d (Free o m) (h .kept .user) level
 
   pub flip : (x y : Memory) → Indistinguishable o m d x y → Indistinguishable o m d y x
-  flip x y h = record { kept = h .kept; lengthx = h .lengthy; lengthy = h .lengthx; mapx = h .mapy; mapy = h .mapx; frames = λ a r. sym (h .frames a r) }
+  flip x y h =
+      record {
+        kept = h .kept;
+        lengthx = h .lengthy;
+        lengthy = h .lengthx;
+        mapx = h .mapy;
+        mapy = h .mapx;
+        frames = λ a r. sym (h .frames a r);
+      }
 
   -- the same writes, to writable reached frames only, on both
-  pub near-next : Apart o m → (e : Desk) (x y : Memory) (ws : RealWrites) → Indistinguishable o m d x y → Kept d e × Each (Free o m) ws → Indistinguishable o m e (commit ws x) (commit ws y)
+  pub near-next : Apart o m → (e : Desk) (x y : Memory) (ws : RealWrites) → Indistinguishable o m d x y
+      → Kept d e × Each (Free o m) ws → Indistinguishable o m e (commit ws x) (commit ws y)
   near-next apart e x y ws h f =
       let k = h .kept in
       let j = f .0 in
       let l : length x ≡ length y = omega (arith, h .lengthx, h .lengthy) in
-      let off : (a : ℕ) → InMap (o .map) m a → Each (λ i. a ≢ i) ws = λ a r. each-map ws (λ i w q. apart a r (rw (← q) at w)) (f .1) in
+      let off : (a : ℕ) → InMap (o .map) m a → Each (λ i. a ≢ i) ws = λ a r. each-map ws
+      (λ i w q. apart a r (rw (← q) at w)) (f .1) in
       record {
         kept = record { user = j .user; map = cc; system = cc; control = cc };
         lengthx = commit-length ws x ∙ h .lengthx;

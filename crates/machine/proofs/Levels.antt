@@ -1,4 +1,5 @@
--- The pending set: the level that is due, one level down at a time, that it is pending, and that a level fits beside the others.
+-- The pending set: the level that is due, one level down at a time, that it is pending, and that a
+-- level fits beside the others.
 use Prim.Native.Nat.{ℕ, zero, suc, _+_, _-_, _*_, _/_, _%_, _^_, _≤_, _<_}
 use mathlib.Core.Path.{_≡_, refl, ap, _∙_}
 use mathlib.Core.Bool.{Bool, true, false, _&&_, and-false}
@@ -33,7 +34,8 @@ module _ (k p l : ℕ) (some : 0 < k) where
 pub level-fits : (n k p : ℕ) → k < n → p < 2 ^ n → (p / 2 ^ k % 2 ≡ 1 → ⊥) → p + 2 ^ k < 2 ^ n
 level-fits n k p h small free =
     let j = n - (k + 1) in
-    let size : 2 ^ n ≡ 2 * 2 ^ j * 2 ^ k = let e : n ≡ 1 + j + k = omega arith in ap (λ (i : ℕ). 2 ^ i) e ∙ simp (pow-add 2 (1 + j) k, pow-add 2 1 j) in
+    let size : 2 ^ n ≡ 2 * 2 ^ j * 2 ^ k = let e : n ≡ 1 + j + k = omega arith in
+    ap (λ (i : ℕ). 2 ^ i) e ∙ simp (pow-add 2 (1 + j) k, pow-add 2 1 j) in
     let below : p / 2 ^ k < 2 * 2 ^ j = div-lt-iff-lt-mul (pow-pos k) .1 (rw size at small) in
     let room : (p + 2 ^ k) / 2 ^ k < 2 * 2 ^ j = rw (add-div-right p (pow-pos k)) (omega arith) in
     rw size (div-lt-iff-lt-mul (pow-pos k) .0 room)
@@ -57,7 +59,8 @@ unfolding due isPending
 due-pending zero p l h = absurd (omega arith)
 due-pending (suc k) p l h = go (eqb (p / 2 ^ suc k % 2) 1) (ltb l (suc k)) refl (due-pending k p l) h
   where
-    go : (b t : Bool) → eqb (p / 2 ^ suc k % 2) 1 ≡ b → (0 < due k p l → 2 ^ due k p l ≤ p) → 0 < pick (b && t) (suc k) (due k p l) → 2 ^ pick (b && t) (suc k) (due k p l) ≤ p
+    go : (b t : Bool) → eqb (p / 2 ^ suc k % 2) 1 ≡ b → (0 < due k p l → 2 ^ due k p l ≤ p)
+        → 0 < pick (b && t) (suc k) (due k p l) → 2 ^ pick (b && t) (suc k) (due k p l) ≤ p
     go true true e below g = set-below p (suc k) (eqb-true _ _ e)
     go true false e below g = below g
     go false t e below g = below g

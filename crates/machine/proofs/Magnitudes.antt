@@ -1,8 +1,10 @@
--- Signed numbers by sign and magnitude, for L bytes and any L: product, quotient, extension, shifts and counts by unsigned arithmetic.
+-- Signed numbers by sign and magnitude, for L bytes and any L: product, quotient, extension, shifts
+-- and counts by unsigned arithmetic.
 use Prim.Native.Nat.{ℕ, zero, suc, _+_, _-_, _*_, _/_, _%_, _^_, _≤_, _<_}
 use mathlib.Core.Path.{_≡_, refl, ap, _∙_}
 use mathlib.Core.Bool.{Bool, true, false, not, and-true}
-use native.Mathlib.Nat.{mod-eq-of-lt, zero-div, div-zero, div-le-self, div-eq-of-lt, mul-mod-left, lt-of-lt-of-le, pow-suc}
+use native.Mathlib.Nat.{mod-eq-of-lt, zero-div, div-zero, div-le-self, div-eq-of-lt, mul-mod-left, lt-of-lt-of-le}
+use native.Mathlib.Nat.{pow-suc}
 use native.Mathlib.Omega.{arith}
 use borrow.Author.Tests.{le-leb, lt-ltb}
 use lib.Dec.{ltb, leb}
@@ -12,7 +14,8 @@ use lib.Signed.{quotZ, shrZ}
 use Rattle.machine.specs.Words.{pick, span}
 use Rattle.machine.specs.Integers.{half, negative, signed, fits, modulo, kept}
 use Rattle.machine.proofs.Differences.{leb-same, gap-pos, gap-shift, gap-same, gap-neg, gap-mul, gap-modulo}
-use Rattle.machine.proofs.Widths.{b0, span-positive, span-wider, half-twice, by-sign, signed-gap, signed-high, signed-low-is, signed-high-is, fits-gap, kept-gap}
+use Rattle.machine.proofs.Widths.{b0, span-positive, span-wider, half-twice, by-sign, signed-gap, signed-high}
+use Rattle.machine.proofs.Widths.{signed-low-is, signed-high-is, fits-gap, kept-gap}
 
 -- ---- Sign and magnitude
 
@@ -38,9 +41,12 @@ magnitude-half L x l h =
     by-sign L x (λ t. pick t (span L - x) x ≤ half L) (λ q. omega (arith, half-twice L l)) (λ q. omega arith)
 
 pub withSign-mul : (s t : Bool) (m n : ℕ) → withSign s m *ℤ withSign t n ≡ withSign (differ s t) (m * n)
-withSign-mul true true m n = gap-same (gap-mul (gap-neg (gap-pos m)) (gap-neg (gap-pos n))) (gap-pos (m * n)) (omega arith)
-withSign-mul true false m n = gap-same (gap-mul (gap-neg (gap-pos m)) (gap-pos n)) (gap-neg (gap-pos (m * n))) (omega arith)
-withSign-mul false true m n = gap-same (gap-mul (gap-pos m) (gap-neg (gap-pos n))) (gap-neg (gap-pos (m * n))) (omega arith)
+withSign-mul true true m n =
+    gap-same (gap-mul (gap-neg (gap-pos m)) (gap-neg (gap-pos n))) (gap-pos (m * n)) (omega arith)
+withSign-mul true false m n =
+    gap-same (gap-mul (gap-neg (gap-pos m)) (gap-pos n)) (gap-neg (gap-pos (m * n))) (omega arith)
+withSign-mul false true m n =
+    gap-same (gap-mul (gap-pos m) (gap-neg (gap-pos n))) (gap-neg (gap-pos (m * n))) (omega arith)
 withSign-mul false false m n = refl
 
 pub withSign-quot : (s t : Bool) (m n : ℕ) → quotZ (withSign s m) (withSign t n) ≡ withSign (differ s t) (m / n)
@@ -54,38 +60,55 @@ withSign-quot false true m zero = rw div-zero
 withSign-quot false true m (suc n) = refl
 withSign-quot false false m n = refl
 
-pub withSign-fits : (L : ℕ) (s : Bool) (n : ℕ) → 1 ≤ L → fits L (withSign s n) ≡ pick s (leb n (half L)) (ltb n (half L))
+pub withSign-fits : (L : ℕ) (s : Bool) (n : ℕ) → 1 ≤ L
+    → fits L (withSign s n) ≡ pick s (leb n (half L)) (ltb n (half L))
 withSign-fits L true n l =
     fits-gap L (gap-neg (gap-pos n))
-    ∙ rw (lt-ltb 0 (half L + n) (omega (arith, half-twice L l, span-positive L)), and-true) (leb-same n (0 + half L) n (half L) (omega arith) (omega arith))
+    ∙ rw (lt-ltb 0 (half L + n) (omega (arith, half-twice L l, span-positive L)), and-true)
+    (leb-same n (0 + half L) n (half L) (omega arith) (omega arith))
 withSign-fits L false n l =
     fits-gap L (gap-pos n)
-    ∙ rw (le-leb 0 (n + half L) (omega arith)) (leb-same (suc n) (half L + 0) (suc n) (half L) (omega arith) (omega arith))
+    ∙ rw (le-leb 0 (n + half L) (omega arith))
+    (leb-same (suc n) (half L + 0) (suc n) (half L) (omega arith) (omega arith))
 
 pub withSign-kept : (L : ℕ) (s : Bool) (n : ℕ) → n ≤ span L → kept L (withSign s n) ≡ pick s (span L - n) n % span L
-withSign-kept L true n h = kept-gap L (span L - n) 0 1 (gap-shift (span L - n + 0 * span L) (1 * span L) (gap-neg (gap-pos n)) (omega arith))
+withSign-kept L true n h =
+    kept-gap L (span L - n) 0 1 (gap-shift (span L - n + 0 * span L) (1 * span L) (gap-neg (gap-pos n)) (omega arith))
 withSign-kept L false n h = kept-gap L n 0 0 (gap-shift (n + 0 * span L) (0 * span L) (gap-pos n) (omega arith))
 
 -- ---- Product and quotient
 
 module _ (L a b : ℕ) (fa : a < span L) (fb : b < span L) where
-  pub product-by-magnitude : signed L b *ℤ signed L a ≡ withSign (differ (negative L b) (negative L a)) (magnitude L b * magnitude L a)
-  product-by-magnitude = rw (signed-by-magnitude L b fb, signed-by-magnitude L a fa) (withSign-mul (negative L b) (negative L a) (magnitude L b) (magnitude L a))
+  pub product-by-magnitude : signed L b *ℤ signed L a ≡ withSign (differ (negative L b) (negative L a))
+      (magnitude L b * magnitude L a)
+  product-by-magnitude =
+      rw (signed-by-magnitude L b fb, signed-by-magnitude L a fa)
+      (withSign-mul (negative L b) (negative L a) (magnitude L b) (magnitude L a))
 
-  pub quotient-by-magnitude : quotZ (signed L b) (signed L a) ≡ withSign (differ (negative L b) (negative L a)) (magnitude L b / magnitude L a)
-  quotient-by-magnitude = rw (signed-by-magnitude L b fb, signed-by-magnitude L a fa) (withSign-quot (negative L b) (negative L a) (magnitude L b) (magnitude L a))
+  pub quotient-by-magnitude : quotZ (signed L b) (signed L a) ≡ withSign (differ (negative L b) (negative L a))
+      (magnitude L b / magnitude L a)
+  quotient-by-magnitude =
+      rw (signed-by-magnitude L b fb, signed-by-magnitude L a fa)
+      (withSign-quot (negative L b) (negative L a) (magnitude L b) (magnitude L a))
 
 module _ (L a b : ℕ) (wide : 1 ≤ L) (fa : a < span L) (fb : b < span L) where
   pub product-fits : fits L (signed L b *ℤ signed L a)
-      ≡ pick (differ (negative L b) (negative L a)) (leb (magnitude L b * magnitude L a) (half L)) (ltb (magnitude L b * magnitude L a) (half L))
-  product-fits = rw (product-by-magnitude L a b fa fb) (withSign-fits L (differ (negative L b) (negative L a)) (magnitude L b * magnitude L a) wide)
+      ≡ pick (differ (negative L b) (negative L a)) (leb (magnitude L b * magnitude L a) (half L))
+      (ltb (magnitude L b * magnitude L a) (half L))
+  product-fits =
+      rw (product-by-magnitude L a b fa fb)
+      (withSign-fits L (differ (negative L b) (negative L a)) (magnitude L b * magnitude L a) wide)
 
   pub quotient-fits-by-magnitude : fits L (quotZ (signed L b) (signed L a))
-      ≡ pick (differ (negative L b) (negative L a)) (leb (magnitude L b / magnitude L a) (half L)) (ltb (magnitude L b / magnitude L a) (half L))
-  quotient-fits-by-magnitude = rw (quotient-by-magnitude L a b fa fb) (withSign-fits L (differ (negative L b) (negative L a)) (magnitude L b / magnitude L a) wide)
+      ≡ pick (differ (negative L b) (negative L a)) (leb (magnitude L b / magnitude L a) (half L))
+      (ltb (magnitude L b / magnitude L a) (half L))
+  quotient-fits-by-magnitude =
+      rw (quotient-by-magnitude L a b fa fb)
+      (withSign-fits L (differ (negative L b) (negative L a)) (magnitude L b / magnitude L a) wide)
 
   pub kept-quotient : kept L (quotZ (signed L b) (signed L a))
-      ≡ pick (differ (negative L b) (negative L a)) (span L - magnitude L b / magnitude L a) (magnitude L b / magnitude L a) % span L
+      ≡ pick (differ (negative L b) (negative L a)) (span L - magnitude L b / magnitude L a)
+      (magnitude L b / magnitude L a) % span L
   kept-quotient =
       rw (quotient-by-magnitude L a b fa fb)
       (withSign-kept L (differ (negative L b) (negative L a)) (magnitude L b / magnitude L a)
@@ -100,11 +123,13 @@ module _ (L x : ℕ) (fx : x < span L) where
       let w = span-wider L M h in
       by-sign L x (λ t. kept M (signed L x) ≡ pick t (x + (span M - span L)) x)
       (λ q.
-      kept-gap M (x + (span M - span L)) 0 1 (gap-shift (x + (span M - span L) + 0 * span M) (1 * span M) (signed-high L x q) (omega arith))
+      kept-gap M (x + (span M - span L)) 0 1
+      (gap-shift (x + (span M - span L) + 0 * span M) (1 * span M) (signed-high L x q) (omega arith))
       ∙ mod-eq-of-lt (omega arith))
       (λ q. rw (signed-low-is L x q) (mod-eq-of-lt (omega arith)))
 
-  pub kept-shift : (d : ℕ) → kept L (shrZ (signed L x) d) ≡ pick (negative L x) (span L - 1 - (span L - 1 - x) / d) (x / d)
+  pub kept-shift : (d : ℕ) → kept L (shrZ (signed L x) d) ≡ pick (negative L x) (span L - 1 - (span L - 1 - x) / d)
+      (x / d)
   unfolding modulo
   kept-shift d =
       by-sign L x (λ t. kept L (shrZ (signed L x) d) ≡ pick t (span L - 1 - (span L - 1 - x) / d) (x / d))

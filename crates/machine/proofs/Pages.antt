@@ -1,5 +1,6 @@
--- What the lookup of a first byte tells of the bytes after it: its alarm is theirs, and a byte that is found has the rest of its page beside it, so that
--- writes of any number of bytes in one page go to one place. In kernel mode this rests on a memory of whole frames.
+-- What the lookup of a first byte tells of the bytes after it: its alarm is theirs, and a byte that
+-- is found has the rest of its page beside it, so that writes of any number of bytes in one page go
+-- to one place. In kernel mode this rests on a memory of whole frames.
 use Prim.Native.Nat.{ℕ, zero, suc, _+_, _-_, _/_, _%_, _≤_, _<_}
 use mathlib.Core.Path.{_≡_, refl, ap}
 use mathlib.Core.Bool.{Bool, true, false}
@@ -19,7 +20,9 @@ use Rattle.machine.specs.declared.Access.the-variants.{Write}
 use Rattle.machine.specs.Words.{pick, Memory, wrap}
 use Rattle.machine.specs.State.{frameStart, userMode}
 use Rattle.machine.specs.Alarms.{got, alarm}
-use Rattle.machine.specs.Map.{pageOf, mapEntry, present, forbiddenBits, frameOf, undamaged, Found, foundAt, inFrame, allows, inNumberOrder, View, mapped, unmapped, realOf, viewBy, readFrom, writesFrom, realWritesFrom, located}
+use Rattle.machine.specs.Map.{pageOf, mapEntry, present, forbiddenBits, frameOf, undamaged, Found, foundAt}
+use Rattle.machine.specs.Map.{inFrame, allows, inNumberOrder, View, mapped, unmapped, realOf, viewBy, readFrom}
+use Rattle.machine.specs.Map.{writesFrom, realWritesFrom, located}
 use Rattle.machine.proofs.Widths.{and-true}
 use Rattle.machine.proofs.Views.{order-got}
 
@@ -31,12 +34,14 @@ pub record Alarms (s : ℕ) (map : Map) (m : Memory) (x : VirtualAddress) (w : A
   pub miss : viewBy s map m x w ≡ alarm n (x .0)
 
 module _ {s : ℕ} {map : Map} {m : Memory} {x : VirtualAddress} {n : Alarm} where
-  pub read-alarm : {w : Access} → Alarms s map m x w n → (L acc : ℕ) → 0 < L → readFrom (viewBy s map m) w L (x .0) acc ≡ alarm n (x .0)
+  pub read-alarm : {w : Access} → Alarms s map m x w n → (L acc : ℕ) → 0 < L
+      → readFrom (viewBy s map m) w L (x .0) acc ≡ alarm n (x .0)
   unfolding readFrom
   read-alarm f zero acc p = absurd (omega arith)
   read-alarm f (suc L) acc p = let e : wrap (x .0) ≡ x .0 = omega arith in rw (e, f .miss)
 
-  pub located-alarm : Alarms s map m x Write n → (bs : List ℕ) → 0 < length bs → located (viewBy s map m) (writesFrom (x .0) bs) ≡ alarm n (x .0)
+  pub located-alarm : Alarms s map m x Write n → (bs : List ℕ) → 0 < length bs
+      → located (viewBy s map m) (writesFrom (x .0) bs) ≡ alarm n (x .0)
   unfolding located writesFrom
   located-alarm f [] p = absurd (omega arith)
   located-alarm f (b ∷ bs) p = let e : wrap (x .0) ≡ x .0 = omega arith in rw (e, f .miss)
@@ -45,7 +50,9 @@ module _ {s : ℕ} {map : Map} {m : Memory} {x : VirtualAddress} {n : Alarm} whe
 
 module _ (m : Memory) (x : VirtualAddress) (w : Access) (a : RealAddress) where
   module _ (map : Map) (hit : mapped map m x w ≡ got (foundAt m a)) where
-    mapped-tests : (ltb (pageOf x) (map .length) ≡ true) × (present (mapEntry map m (pageOf x)) ≡ true) × (undamaged (length m) (mapEntry map m (pageOf x)) ≡ true) × (allows w (mapEntry map m (pageOf x)) ≡ true) × (foundAt m (inFrame (frameOf (mapEntry map m (pageOf x))) x) ≡ foundAt m a)
+    mapped-tests : (ltb (pageOf x) (map .length) ≡ true) × (present (mapEntry map m (pageOf x)) ≡ true)
+        × (undamaged (length m) (mapEntry map m (pageOf x)) ≡ true) × (allows w (mapEntry map m (pageOf x)) ≡ true)
+        × (foundAt m (inFrame (frameOf (mapEntry map m (pageOf x))) x) ≡ foundAt m a)
     unfolding mapped
     mapped-tests = order-got _ _ _ _ _ _ _ hit
 
@@ -57,18 +64,22 @@ module _ (m : Memory) (x : VirtualAddress) (w : Access) (a : RealAddress) where
     unfolding undamaged
     mapped-inside =
         let e = mapEntry map m (pageOf x) in
-        let s = leb-true (frameStart (frameOf e) + 512) (length m) (and-true (eqb (forbiddenBits e) 0) _ (mapped-tests .2) .1) in
+        let s = leb-true (frameStart (frameOf e) + 512) (length m)
+        (and-true (eqb (forbiddenBits e) 0) _ (mapped-tests .2) .1) in
         omega (arith, mapped-real)
 
-    mapped-page : (k : ℕ) → x .0 % 512 + k < 512 → mapped map m (record { 0 = x .0 + k }) w ≡ got (foundAt m (record { 0 = a .0 + k }))
+    mapped-page : (k : ℕ) → x .0 % 512 + k < 512
+        → mapped map m (record { 0 = x .0 + k }) w ≡ got (foundAt m (record { 0 = a .0 + k }))
     unfolding mapped inNumberOrder inFrame
     mapped-page k l =
         let t = mapped-tests in
         let p : (x .0 + k) / 512 ≡ x .0 / 512 = omega arith in
-        let r : frameStart (frameOf (mapEntry map m (pageOf x))) + (x .0 + k) % 512 ≡ a .0 + k = omega (arith, mapped-real) in
+        let r : frameStart (frameOf (mapEntry map m (pageOf x))) + (x .0 + k) % 512 ≡ a .0
+        + k = omega (arith, mapped-real) in
         rw (p, t .0, t .1, t .2, t .3, r)
 
-  unmapped-tests : (b : Bool) (f g : Found) → pick b (got f) (alarm alarms.Address (x .0)) ≡ got g → (b ≡ true) × (f ≡ g)
+  unmapped-tests : (b : Bool) (f g : Found) → pick b (got f) (alarm alarms.Address (x .0)) ≡ got g
+      → (b ≡ true) × (f ≡ g)
   unmapped-tests true f g h = (refl, cc)
   unmapped-tests false f g h = (cc, cc)
 
@@ -79,7 +90,8 @@ module _ (m : Memory) (x : VirtualAddress) (w : Access) (a : RealAddress) where
         let t = unmapped-tests (ltb (x .0) (length m)) (foundAt m (realOf x)) (foundAt m a) hit in
         (ltb-true (x .0) (length m) (t .0), ap (λ (f : Found). f .real .0) (t .1))
 
-    unmapped-page : length m % 512 ≡ 0 → (k : ℕ) → x .0 % 512 + k < 512 → unmapped m (record { 0 = x .0 + k }) w ≡ got (foundAt m (record { 0 = a .0 + k }))
+    unmapped-page : length m % 512 ≡ 0 → (k : ℕ) → x .0 % 512 + k < 512
+        → unmapped m (record { 0 = x .0 + k }) w ≡ got (foundAt m (record { 0 = a .0 + k }))
     unfolding unmapped
     unmapped-page whole k l =
         let t = unmapped-inside in
@@ -94,7 +106,8 @@ by-mode s map m P f g = go (userMode s)
     go true = f
     go false = g
 
-pub found-inside : (s : ℕ) (map : Map) (m : Memory) (x : VirtualAddress) (w : Access) (a : RealAddress) → viewBy s map m x w ≡ got (foundAt m a) → a .0 < length m
+pub found-inside : (s : ℕ) (map : Map) (m : Memory) (x : VirtualAddress) (w : Access) (a : RealAddress)
+    → viewBy s map m x w ≡ got (foundAt m a) → a .0 < length m
 found-inside s map m x w a =
     by-mode s map m (λ v. v x w ≡ got (foundAt m a) → a .0 < length m)
     (mapped-inside m x w a map)
@@ -108,24 +121,31 @@ pub record Finds (s : ℕ) (map : Map) (m : Memory) (x : VirtualAddress) (w : Ac
   pub whole : length m % 512 ≡ 0
   pub hit : viewBy s map m x w ≡ got (foundAt m a)
 
-module _ {s : ℕ} {map : Map} {m : Memory} {x : VirtualAddress} {w : Access} {a : RealAddress} (f : Finds s map m x w a) where
+module _ {s : ℕ} {map : Map} {m : Memory} {x : VirtualAddress} {w : Access} {a : RealAddress}
+    (f : Finds s map m x w a) where
   -- k bytes further on
-  found-onward : (k : ℕ) → x .0 % 512 + k < 512 → viewBy s map m (record { 0 = x .0 + k }) w ≡ got (foundAt m (record { 0 = a .0 + k }))
+  found-onward : (k : ℕ) → x .0 % 512 + k < 512
+      → viewBy s map m (record { 0 = x .0 + k }) w ≡ got (foundAt m (record { 0 = a .0 + k }))
   found-onward k l =
-      by-mode s map m (λ v. v x w ≡ got (foundAt m a) → v (record { 0 = x .0 + k }) w ≡ got (foundAt m (record { 0 = a .0 + k })))
+      by-mode s map m (λ v. v x w ≡ got (foundAt m a) → v (record { 0 = x .0 + k }) w ≡ got
+      (foundAt m (record { 0 = a .0 + k })))
       (λ h. mapped-page m x w a map h k l)
       (λ h. unmapped-page m x w a h (f .whole) k l)
       (f .hit)
 
-  pub found-page : (k : ℕ) → x .0 % 512 + k < 512 → viewBy s map m (record { 0 = wrap (x .0 + k) }) w ≡ got (foundAt m (record { 0 = a .0 + k }))
+  pub found-page : (k : ℕ) → x .0 % 512 + k < 512
+      → viewBy s map m (record { 0 = wrap (x .0 + k) }) w ≡ got (foundAt m (record { 0 = a .0 + k }))
   found-page k l = let e : wrap (x .0 + k) ≡ x .0 + k = omega arith in rw e (found-onward k l)
 
   pub page-inside : (n : ℕ) → 0 < n → x .0 % 512 + n ≤ 512 → a .0 + n ≤ length m
-  page-inside n p l = let i = found-inside s map m (record { 0 = x .0 + (n - 1) }) w (record { 0 = a .0 + (n - 1) }) (found-onward (n - 1) (omega arith)) in omega arith
+  page-inside n p l =
+      let i = found-inside s map m (record { 0 = x .0 + (n - 1) }) w (record { 0 = a .0 + (n - 1) })
+      (found-onward (n - 1) (omega arith)) in omega arith
 
 -- writes in one page
 module _ {s : ℕ} {map : Map} {m : Memory} {x : VirtualAddress} {a : RealAddress} (f : Finds s map m x Write a) where
-  located-from : (bs : List ℕ) (k : ℕ) → x .0 % 512 + k + length bs ≤ 512 → located (viewBy s map m) (writesFrom (x .0 + k) bs) ≡ got (realWritesFrom (a .0 + k) bs)
+  located-from : (bs : List ℕ) (k : ℕ) → x .0 % 512 + k + length bs ≤ 512
+      → located (viewBy s map m) (writesFrom (x .0 + k) bs) ≡ got (realWritesFrom (a .0 + k) bs)
   unfolding located writesFrom realWritesFrom
   located-from [] k l = refl
   located-from (b ∷ bs) k l =
@@ -133,5 +153,6 @@ module _ {s : ℕ} {map : Map} {m : Memory} {x : VirtualAddress} {a : RealAddres
       let q : suc (a .0 + k) ≡ a .0 + suc k = omega arith in
       rw (found-page f k (omega arith), p, q, located-from bs (suc k) (omega arith))
 
-  pub located-page : (bs : List ℕ) → x .0 % 512 + length bs ≤ 512 → located (viewBy s map m) (writesFrom (x .0) bs) ≡ got (realWritesFrom (a .0) bs)
+  pub located-page : (bs : List ℕ) → x .0 % 512 + length bs ≤ 512
+      → located (viewBy s map m) (writesFrom (x .0) bs) ≡ got (realWritesFrom (a .0) bs)
   located-page bs l = rw (add-zero (x .0), add-zero (a .0)) at (located-from bs 0 (omega arith))

@@ -1,4 +1,5 @@
--- The refusals of a step in two parts: numbers 1 to 3, which a fresh desk is tried for too, and those after them.
+-- The refusals of a step in two parts: numbers 1 to 3, which a fresh desk is tried for too, and
+-- those after them.
 use Prim.Native.Nat.{ℕ}
 use mathlib.Core.Path.{_≡_, refl}
 use mathlib.Core.Bool.{Bool, true, false}
@@ -24,8 +25,11 @@ first-append ((false, k) ∷ ts) us = refl
 
 -- numbers 4, 5 and 7
 unfoldable pub laterRefusal : Desk → ℕ → Answer
-laterRefusal d n = firstRefused ((passes4 d n, refusal.Map) ∷ (passes5 d, refusal.Status) ∷ (isRunning (d .mark), refusal.Stopped) ∷ [])
+laterRefusal d n =
+    firstRefused ((passes4 d n, refusal.Map) ∷ (passes5 d, refusal.Status) ∷ (isRunning (d .mark), refusal.Stopped)
+    ∷ [])
 
-pub step-parts : (d : Desk) (n : ℕ) → stepRefusal d n ≡ orElse (freshRefusal n (d .system) (d .control)) (laterRefusal d n)
+pub step-parts : (d : Desk) (n : ℕ)
+    → stepRefusal d n ≡ orElse (freshRefusal n (d .system) (d .control)) (laterRefusal d n)
 unfolding stepRefusal freshRefusal laterRefusal
 step-parts d n = first-append _ _

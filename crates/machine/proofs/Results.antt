@@ -1,5 +1,6 @@
--- Kept results of sum, difference, product and quotient on numbers of L bytes, for any L: their bytes, carry and borrow, and the one quotient that
--- does not fit (document 000, 2.5.2 to 2.5.5; document 01, "One step").
+-- Kept results of sum, difference, product and quotient on numbers of L bytes, for any L: their
+-- bytes, carry and borrow, and the one quotient that does not fit (document 000, 2.5.2 to 2.5.5;
+-- document 01, "One step").
 use Prim.Native.Nat.{ℕ, suc, _+_, _-_, _*_, _/_, _%_, _≤_, _<_}
 use mathlib.Core.Path.{_≡_, refl, _∙_}
 use mathlib.Core.Bool.{Bool, true, false, not, _&&_}
@@ -14,7 +15,8 @@ use Rattle.machine.specs.Words.{span}
 use Rattle.machine.specs.State.{bit}
 use Rattle.machine.specs.Integers.{half, signed, fits, modulo, kept, resultOf, added, subtracted, divided}
 use Rattle.machine.proofs.Differences.{gap-shift, gap-add, gap-diff, gap-mul}
-use Rattle.machine.proofs.Widths.{b0, span-positive, half-twice, signed-gap, signed-low-is, signed-high-is, pos-fits, pos-over, neg-fits, kept-gap}
+use Rattle.machine.proofs.Widths.{b0, span-positive, half-twice, signed-gap, signed-low-is, signed-high-is}
+use Rattle.machine.proofs.Widths.{pos-fits, pos-over, neg-fits, kept-gap}
 
 -- ---- Kept bytes
 
@@ -22,17 +24,20 @@ module _ (L a b : ℕ) where
   pub kept-sum : kept L (signed L b +ℤ signed L a) ≡ (b + a) % span L
   kept-sum =
       kept-gap L (b + a) 0 (b0 L b + b0 L a)
-      (gap-shift (b + a + 0 * span L) ((b0 L b + b0 L a) * span L) (gap-add (signed-gap L b) (signed-gap L a)) (omega arith))
+      (gap-shift (b + a + 0 * span L) ((b0 L b + b0 L a) * span L) (gap-add (signed-gap L b) (signed-gap L a))
+      (omega arith))
 
   pub kept-difference : a < span L → kept L (signed L b -ℤ signed L a) ≡ (b + (span L - a)) % span L
   kept-difference h =
       kept-gap L (b + (span L - a)) (b0 L a) (b0 L b + 1)
-      (gap-shift (b + (span L - a) + b0 L a * span L) ((b0 L b + 1) * span L) (gap-diff (signed-gap L b) (signed-gap L a)) (omega arith))
+      (gap-shift (b + (span L - a) + b0 L a * span L) ((b0 L b + 1) * span L)
+      (gap-diff (signed-gap L b) (signed-gap L a)) (omega arith))
 
   pub kept-product : kept L (signed L b *ℤ signed L a) ≡ b * a % span L
   kept-product =
       kept-gap L (b * a) (b0 L b * span L * b0 L a) (b * b0 L a + b0 L b * a)
-      (gap-shift (b * a + b0 L b * span L * b0 L a * span L) ((b * b0 L a + b0 L b * a) * span L) (gap-mul (signed-gap L b) (signed-gap L a))
+      (gap-shift (b * a + b0 L b * span L * b0 L a * span L) ((b * b0 L a + b0 L b * a) * span L)
+      (gap-mul (signed-gap L b) (signed-gap L a))
       (omega arith))
 
 -- ---- Carry and borrow
@@ -55,8 +60,15 @@ module _ (L a b : ℕ) (fa : a < span L) (fb : b < span L) where
   difference-borrow = rw (kept-difference L a b fa) (go (b + (span L - a)) refl (decLt b a))
     where
       go : (n : ℕ) → b + (span L - a) ≡ n → Dec (b < a) → b + bit (ltb b a) (span L) ≡ n % span L + a
-      go n e (yes p) = rw (lt-ltb b a p) (omega (arith, rw (lt-leb (span L) n (omega arith)) at (residue-once (span L) n (omega arith))))
-      go n e (no p) = rw (le-ltb b a (omega arith)) (omega (arith, rw (le-leb (span L) n (omega arith)) at (residue-once (span L) n (omega arith))))
+      go n e (yes p) =
+          rw (lt-ltb b a p) (omega (
+            arith,
+            rw (lt-leb (span L) n (omega arith))
+                at (residue-once (span L) n (omega arith)),
+          ))
+      go n e (no p) =
+          rw (le-ltb b a (omega arith))
+          (omega (arith, rw (le-leb (span L) n (omega arith)) at (residue-once (span L) n (omega arith))))
 
 -- ---- Quotient
 
@@ -74,9 +86,11 @@ module _ (L a b : ℕ) (wide : 1 ≤ L) (fa : a < span L) (fb : b < span L) wher
       twice = half-twice L wide
 
       others : (b ≡ half L → a ≡ span L - 1 → ⊥) → true ≡ not (eqb b (half L) && eqb a (span L - 1))
-      others f = not-both (eqb b (half L)) (eqb a (span L - 1)) (λ p q. f (eqb-true b (half L) p) (eqb-true a (span L - 1) q))
+      others f =
+          not-both (eqb b (half L)) (eqb a (span L - 1)) (λ p q. f (eqb-true b (half L) p) (eqb-true a (span L - 1) q))
 
-      by-minus-one : a ≡ span L - 1 → half L ≤ b → Dec (b ≡ half L) → fits L (pos (span L - b)) ≡ not (eqb b (half L) && eqb a (span L - 1))
+      by-minus-one : a ≡ span L - 1 → half L ≤ b → Dec (b ≡ half L)
+          → fits L (pos (span L - b)) ≡ not (eqb b (half L) && eqb a (span L - 1))
       by-minus-one e h (yes q) =
           rw (eq-eqb b (half L) q, eq-eqb a (span L - 1) e) (pos-over L (span L - b) (omega (arith, twice)))
       by-minus-one e h (no q) =
@@ -91,16 +105,22 @@ module _ (L a b : ℕ) (wide : 1 ≤ L) (fa : a < span L) (fb : b < span L) wher
       both-high h k (no q) =
           let d : 1 < suc (span L - 1 - a) = omega arith in
           let n : 0 < suc (span L - 1 - b) = omega arith in
-          pos-fits L (suc (span L - 1 - b) / suc (span L - 1 - a)) (omega (arith, twice, div-lt-self n d)) ∙ others (λ x y. q y)
+          pos-fits L (suc (span L - 1 - b) / suc (span L - 1 - a)) (omega (arith, twice, div-lt-self n d)) ∙ others
+          (λ x y. q y)
 
-      go : Dec (b < half L) → Dec (a < half L) → fits L (quotZ (signed L b) (signed L a)) ≡ not (eqb b (half L) && eqb a (span L - 1))
-      go (yes p) (yes q) = rw (signed-low-is L b p, signed-low-is L a q) (pos-fits L (b / a) (omega (arith, div-le-self b a)) ∙ others (omega arith))
+      go : Dec (b < half L) → Dec (a < half L)
+          → fits L (quotZ (signed L b) (signed L a)) ≡ not (eqb b (half L) && eqb a (span L - 1))
+      go (yes p) (yes q) =
+          rw (signed-low-is L b p, signed-low-is L a q)
+          (pos-fits L (b / a) (omega (arith, div-le-self b a)) ∙ others (omega arith))
       go (yes p) (no q) =
           rw (signed-low-is L b p, signed-high-is L a (omega arith) fa)
-          (neg-fits L (b / suc (span L - 1 - a)) wide (omega (arith, div-le-self b (suc (span L - 1 - a)))) ∙ others (omega arith))
+          (neg-fits L (b / suc (span L - 1 - a)) wide (omega (arith, div-le-self b (suc (span L - 1 - a)))) ∙ others
+          (omega arith))
       go (no p) (yes q) =
           rw (signed-high-is L b (omega arith) fb, signed-low-is L a q)
-          (neg-fits L (suc (span L - 1 - b) / a) wide (omega (arith, twice, div-le-self (suc (span L - 1 - b)) a)) ∙ others (omega (arith, twice)))
+          (neg-fits L (suc (span L - 1 - b) / a) wide (omega (arith, twice, div-le-self (suc (span L - 1 - b)) a))
+          ∙ others (omega (arith, twice)))
       go (no p) (no q) =
           rw (signed-high-is L b (omega arith) fb, signed-high-is L a (omega arith) fa)
           (both-high (omega arith) (omega arith) (ℕ-discrete a (span L - 1)))
@@ -114,7 +134,13 @@ lowest-kept L wide =
     let d : suc (span L - 1 - (span L - 1)) ≡ 1 = omega arith in
     let n : suc (span L - 1 - half L) ≡ half L = omega arith in
     let small : half L < span L = omega arith in
-    rw (signed-high-is L (half L) (omega arith) small, signed-high-is L (span L - 1) (omega arith) (omega arith), d, n, div-one) (mod-eq-of-lt small)
+    rw (
+      signed-high-is L (half L) (omega arith) small,
+      signed-high-is L (span L - 1) (omega arith) (omega arith),
+      d,
+      n,
+      div-one,
+    ) (mod-eq-of-lt small)
 
 pub divided-lowest : (L : ℕ) → 1 ≤ L → (divided L (span L - 1) (half L)) .value ≡ half L
 unfolding divided resultOf

@@ -1,4 +1,5 @@
--- Shifts and rotations of a word by unsigned arithmetic, for any count (document 000, 2.5; document 01, "One step").
+-- Shifts and rotations of a word by unsigned arithmetic, for any count (document 000, 2.5; document
+-- 01, "One step").
 use Prim.Native.Nat.{ℕ, suc, _+_, _-_, _*_, _/_, _%_, _^_, _≤_, _<_}
 use mathlib.Core.Path.{_≡_, refl, sym, ap, _∙_}
 use native.Mathlib.Nat.{mul-assoc, add-mul-div-right}
@@ -23,7 +24,8 @@ module _ (a b : ℕ) where
       rw (signed-high-is 4 a h l, e)
 
   -- of a negative word the bits that come in are ones: its complement goes to the right
-  pub shiftedRight-is : b < span 4 → shiftedRight a b ≡ plain 4 (pick (negative 4 b) (span 4 - 1 - (span 4 - 1 - b) / 2 ^ a) (b / 2 ^ a))
+  pub shiftedRight-is : b < span 4
+      → shiftedRight a b ≡ plain 4 (pick (negative 4 b) (span 4 - 1 - (span 4 - 1 - b) / 2 ^ a) (b / 2 ^ a))
   unfolding shiftedRight
   shiftedRight-is h = rw (kept-shift 4 b h (2 ^ a))
 

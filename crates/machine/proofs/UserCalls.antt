@@ -1,4 +1,5 @@
--- What one call of a desk in user mode may do, whatever its commands are: no proof here looks into a command.
+-- What one call of a desk in user mode may do, whatever its commands are: no proof here looks into
+-- a command.
 use Prim.Native.Nat.{ℕ, zero, suc, _<_}
 use mathlib.Core.Path.{_≡_, refl}
 use mathlib.Core.Bool.{Bool, true, false}
@@ -10,11 +11,14 @@ use Rattle.machine.specs.declared.Desk.{Desk}
 use Rattle.machine.specs.declared.Answer.{Answer}
 use Rattle.machine.specs.declared.Answer.the-variants.{Accepted, Refused}
 use Rattle.machine.specs.Words.{Memory}
-use Rattle.machine.specs.State.{Registers, userMode, levelOf, flagsOf, withFlags, validKernelStatus, entryR15, entryStatus, savedBytes}
+use Rattle.machine.specs.State.{Registers, userMode, levelOf, flagsOf, withFlags, validKernelStatus, entryR15}
+use Rattle.machine.specs.State.{entryStatus, savedBytes}
 use Rattle.machine.specs.Alarms.{OrAlarm, got, alarm}
 use Rattle.machine.specs.Map.{View, VirtualWrites, RealWrites, realWritesFrom, located}
 use Rattle.machine.specs.Commands.{Done, Completion, done, ofMode, SystemCall, userCommand}
-use Rattle.machine.specs.Steps.{Event, quiet, entered, stopped, Outcome, stop, completed, Plan, continues, enters, due, userWritten, ofUserCommand, interrupted, userPlan, enterIf, concluded, userStep}
+use Rattle.machine.specs.Steps.{Event, quiet, entered, stopped, Outcome, stop, completed, Plan, continues}
+use Rattle.machine.specs.Steps.{enters, due, userWritten, ofUserCommand, interrupted, userPlan, enterIf}
+use Rattle.machine.specs.Steps.{concluded, userStep}
 use Rattle.machine.specs.Calls.{unchanged, unlessRefused, requestRefusal, requestOutcome}
 use Rattle.machine.proofs.Writes.{Each}
 use Rattle.machine.proofs.Blocks.{words-length, registers-length}
@@ -54,7 +58,8 @@ module _ (P : ℕ → Type 0) (r : Registers) (s p : ℕ) (user : s < 0x8000_000
   written-fit d (got ws) h = (omega arith, h)
   written-fit d (alarm n x) h = tt
 
-  command-fit : (v : View) (a : OrAlarm (Completion SystemCall)) → ((ws : VirtualWrites) → EachLocated P (located v ws)) → FitPlan P (ofUserCommand r s p v a)
+  command-fit : (v : View) (a : OrAlarm (Completion SystemCall))
+      → ((ws : VirtualWrites) → EachLocated P (located v ws)) → FitPlan P (ofUserCommand r s p v a)
   unfolding ofUserCommand
   command-fit v (got (done d)) h = written-fit d (located v (d .writes)) (h (d .writes))
   command-fit v (got (ofMode c)) h = tt
@@ -79,12 +84,17 @@ module _ (d : Desk) (P : ℕ → Type 0) (user : userMode (d .status) ≡ true) 
 
   concluded-fit : (block : Memory) (c : Plan) → FitPlan P c → FitOutcome d P (concluded d block c)
   unfolding concluded completed
-  concluded-fit block (continues r s ws) h = (record { user = lt-ltb s 0x8000_0000 (h .0); map = refl; system = refl; control = refl }, h .1)
-  concluded-fit block (enters i r x p) h = enter-fit (validKernelStatus (entryStatus block i)) i r x p (entryR15 block i) (entryStatus block i)
+  concluded-fit block (continues r s ws) h =
+      (record { user = lt-ltb s 0x8000_0000 (h .0); map = refl; system = refl; control = refl }, h .1)
+  concluded-fit block (enters i r x p) h =
+      enter-fit (validKernelStatus (entryStatus block i)) i r x p (entryR15 block i) (entryStatus block i)
 
-  pub user-step-fit : (v : View) (block : Memory) → ((ws : VirtualWrites) → EachLocated P (located v ws)) → FitOutcome d P (userStep d v block)
+  pub user-step-fit : (v : View) (block : Memory) → ((ws : VirtualWrites) → EachLocated P (located v ws))
+      → FitOutcome d P (userStep d v block)
   unfolding userStep
-  user-step-fit v block h = concluded-fit block _ (plan-fit P (d .registers) (d .status) (d .pending) (ltb-true (d .status) 0x8000_0000 user) v h)
+  user-step-fit v block h =
+      concluded-fit block _
+      (plan-fit P (d .registers) (d .status) (d .pending) (ltb-true (d .status) 0x8000_0000 user) v h)
 
   pub unless-fit : (a : Answer) (o : Outcome) → FitOutcome d P o → FitOutcome d P (unlessRefused a d o)
   unfolding unlessRefused unchanged
@@ -93,4 +103,5 @@ module _ (d : Desk) (P : ℕ → Type 0) (user : userMode (d .status) ≡ true) 
 
   pub request-fit : (level : ℕ) → FitOutcome d P (requestOutcome d level)
   unfolding requestOutcome
-  request-fit level = unless-fit (requestRefusal d level) _ (record { user = user; map = refl; system = refl; control = refl }, tt)
+  request-fit level =
+      unless-fit (requestRefusal d level) _ (record { user = user; map = refl; system = refl; control = refl }, tt)

@@ -1,4 +1,5 @@
--- Numbers of L bytes as signed numbers, for any L: sign, range, round trip, overflow and extension (document 000, 1.1.2; document 01, "One step").
+-- Numbers of L bytes as signed numbers, for any L: sign, range, round trip, overflow and extension
+-- (document 000, 1.1.2; document 01, "One step").
 use Prim.Native.Nat.{ℕ, zero, suc, _+_, _-_, _*_, _%_, _≤_, _<_}
 use mathlib.Core.Path.{_≡_, refl, sym, _∙_}
 use mathlib.Core.Bool.{Bool, true, false, _&&_}
@@ -11,7 +12,8 @@ use lib.Signed.{leZ, ltZ}
 use Rattle.machine.specs.Words.{pick, span}
 use Rattle.machine.specs.State.{bit}
 use Rattle.machine.specs.Integers.{half, negative, signed, fits, modulo, kept}
-use Rattle.machine.proofs.Differences.{leb-same, Gap, gap-sub, gap-pos, gap-shift, gap-same, gap-neg, gap-diff, gap-leZ, gap-ltZ, modulo-lt, gap-modulo}
+use Rattle.machine.proofs.Differences.{leb-same, Gap, gap-sub, gap-pos, gap-shift, gap-same, gap-neg, gap-diff}
+use Rattle.machine.proofs.Differences.{gap-leZ, gap-ltZ, modulo-lt, gap-modulo}
 
 -- ---- Spans and halves
 
@@ -56,13 +58,15 @@ signed-is L x = gap-same (signed-gap L x) (gap-diff (gap-pos x) (gap-pos (b0 L x
 pub signed-low : (L x : ℕ) → x < half L → Gap (signed L x) x 0
 unfolding b0
 signed-low L x h =
-    let e : b0 L x * span L ≡ 0 = by-sign L x (λ t. bit t 1 * span L ≡ 0) (λ q. absurd (omega arith)) (λ q. omega arith) in
+    let e : b0 L x * span L ≡ 0 = by-sign L x (λ t. bit t 1 * span L ≡ 0) (λ q. absurd (omega arith))
+    (λ q. omega arith) in
     gap-shift x 0 (signed-gap L x) (omega arith)
 
 pub signed-high : (L x : ℕ) → half L ≤ x → Gap (signed L x) x (span L)
 unfolding b0
 signed-high L x h =
-    let e : b0 L x * span L ≡ span L = by-sign L x (λ t. bit t 1 * span L ≡ span L) (λ q. omega arith) (λ q. absurd (omega arith)) in
+    let e : b0 L x * span L ≡ span L = by-sign L x (λ t. bit t 1 * span L ≡ span L) (λ q. omega arith)
+    (λ q. absurd (omega arith)) in
     gap-shift x (span L) (signed-gap L x) (omega arith)
 
 pub signed-low-is : (L x : ℕ) → x < half L → signed L x ≡ pos x
@@ -87,7 +91,8 @@ fits-gap L {z} {a} {b} h =
     let low : leZ (negℤ (pos (half L))) z ≡ leb b (a + half L) =
     gap-leZ (gap-neg (gap-pos (half L))) h ∙ leb-same (0 + b) (a + half L) b (a + half L) (omega arith) (omega arith) in
     let high : ltZ z (pos (half L)) ≡ ltb a (half L + b) =
-    gap-ltZ h (gap-pos (half L)) ∙ leb-same (suc (a + 0)) (half L + b) (suc a) (half L + b) (omega arith) (omega arith) in
+    gap-ltZ h (gap-pos (half L)) ∙ leb-same (suc (a + 0)) (half L + b) (suc a) (half L + b) (omega arith)
+    (omega arith) in
     rw (low, high)
 
 pub gap-fits : (L : ℕ) {z : ℤ} {a b : ℕ} → Gap z a b → b ≤ a + half L → a < half L + b → fits L z ≡ true
@@ -116,7 +121,8 @@ pub signed-fits : (L x : ℕ) → 1 ≤ L → x < span L → fits L (signed L x)
 unfolding b0
 signed-fits L x l h =
     let e = half-twice L l in
-    let bounds = by-sign L x (λ t. (bit t 1 * span L ≤ x + half L) × (x < half L + bit t 1 * span L)) (λ q. omega arith) (λ q. omega arith) in
+    let bounds = by-sign L x (λ t. (bit t 1 * span L ≤ x + half L) × (x < half L + bit t 1 * span L))
+    (λ q. omega arith) (λ q. omega arith) in
     gap-fits L (signed-gap L x) (bounds .0) (bounds .1)
 
 pub fits-wider : (L M : ℕ) (z : ℤ) → L ≤ M → fits L z ≡ true → fits M z ≡ true
@@ -139,7 +145,9 @@ pub kept-gap : (L : ℕ) {z : ℤ} (a j k : ℕ) → Gap z (a + j * span L) (k *
 kept-gap L a j k h = gap-modulo (span L) (span-positive L) a j k h
 
 pub kept-signed : (L x : ℕ) → x < span L → kept L (signed L x) ≡ x
-kept-signed L x h = kept-gap L x 0 (b0 L x) (gap-shift (x + 0 * span L) (b0 L x * span L) (signed-gap L x) (omega arith)) ∙ mod-eq-of-lt h
+kept-signed L x h =
+    kept-gap L x 0 (b0 L x) (gap-shift (x + 0 * span L) (b0 L x * span L) (signed-gap L x) (omega arith))
+    ∙ mod-eq-of-lt h
 
 pub signed-kept : (L : ℕ) (z : ℤ) → 1 ≤ L → fits L z ≡ true → signed L (kept L z) ≡ z
 unfolding modulo
@@ -167,4 +175,5 @@ overflow-not-exact L z l e q =
 -- ---- Extension: CONV is L = 1, M = 4
 
 pub extension-exact : (L M x : ℕ) → 1 ≤ L → L ≤ M → x < span L → signed M (kept M (signed L x)) ≡ signed L x
-extension-exact L M x l m h = signed-kept M (signed L x) (omega arith) (fits-wider L M (signed L x) m (signed-fits L x l h))
+extension-exact L M x l m h =
+    signed-kept M (signed L x) (omega arith) (fits-wider L M (signed L x) m (signed-fits L x l h))

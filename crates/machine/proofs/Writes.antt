@@ -24,7 +24,8 @@ unfolding commit
 commit-length [] m = refl
 commit-length (w ∷ ws) m = commit-length ws (set m (w .0 .0) (w .1)) ∙ length-set m (w .0 .0) (w .1)
 
-set-same : (x y : Memory) (i b a : ℕ) → length x ≡ length y → byteAt x a ≡ byteAt y a → byteAt (set x i b) a ≡ byteAt (set y i b) a
+set-same : (x y : Memory) (i b a : ℕ) → length x ≡ length y → byteAt x a ≡ byteAt y a
+    → byteAt (set x i b) a ≡ byteAt (set y i b) a
 set-same x y i b a l h = go (ℕ-discrete a i) (decLt i (length x))
   where
     go : Dec (a ≡ i) → Dec (i < length x) → byteAt (set x i b) a ≡ byteAt (set y i b) a
@@ -33,17 +34,20 @@ set-same x y i b a l h = go (ℕ-discrete a i) (decLt i (length x))
     go (yes e) (no f) = rw (set-out x i b (omega arith), set-out y i b (omega arith)) h
 
 -- where two memories agree, they agree after the same writes
-pub commit-same : (ws : RealWrites) (x y : Memory) (a : ℕ) → length x ≡ length y → byteAt x a ≡ byteAt y a → byteAt (commit ws x) a ≡ byteAt (commit ws y) a
+pub commit-same : (ws : RealWrites) (x y : Memory) (a : ℕ) → length x ≡ length y → byteAt x a ≡ byteAt y a
+    → byteAt (commit ws x) a ≡ byteAt (commit ws y) a
 unfolding commit
 commit-same [] x y a l h = h
 commit-same (w ∷ ws) x y a l h =
-    commit-same ws (set x (w .0 .0) (w .1)) (set y (w .0 .0) (w .1)) a (simp length-set l) (set-same x y (w .0 .0) (w .1) a l h)
+    commit-same ws (set x (w .0 .0) (w .1)) (set y (w .0 .0) (w .1)) a (simp length-set l)
+    (set-same x y (w .0 .0) (w .1) a l h)
 
 -- a place that is not written keeps its byte
 pub commit-other : (ws : RealWrites) (m : Memory) (a : ℕ) → Each (λ i. a ≢ i) ws → byteAt (commit ws m) a ≡ byteAt m a
 unfolding commit
 commit-other [] m a h = refl
-commit-other (w ∷ ws) m a h = commit-other ws (set m (w .0 .0) (w .1)) a (h .1) ∙ getD-set-other m (w .0 .0) a (w .1) 0 (h .0)
+commit-other (w ∷ ws) m a h =
+    commit-other ws (set m (w .0 .0) (w .1)) a (h .1) ∙ getD-set-other m (w .0 .0) a (w .1) 0 (h .0)
 
 pub commit-from : (bs : List ℕ) (a : ℕ) (m : Memory) → commit (realWritesFrom a bs) m ≡ sets m a bs
 unfolding commit realWritesFrom

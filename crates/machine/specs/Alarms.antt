@@ -1,4 +1,5 @@
--- Document 01, "Numbers 1 to 16", 8 to 15: the alarms; a part of a command gives a value, or an alarm with its argument.
+-- Document 01, "Numbers 1 to 16", 8 to 15: the alarms; a part of a command gives a value, or an
+-- alarm with its argument.
 use Prim.Native.Nat.{ℕ}
 use Rattle.machine.specs.declared.Alarm.{Alarm}
 use Rattle.machine.specs.declared.Alarm.the-variants as alarms
@@ -16,13 +17,14 @@ alarmNumber alarms.ReadOnly = 11
 alarmNumber alarms.Command = 12
 -- "HALT or RESUME in user mode, or a system call in kernel mode"
 alarmNumber alarms.Mode = 13
--- "an operand breaks a form rule, or RESUME's block breaks 3 or 4 or its status isn't a valid user status"
+-- "an operand breaks a form rule, or RESUME's block breaks 3 or 4 or its status isn't a valid user
+-- status"
 alarmNumber alarms.Operand = 14
 -- "DIV by zero"
 alarmNumber alarms.Divide = 15
 
--- the cause of the kernel entry that an alarm makes, and the entry of the system block: "the alarm number otherwise". A definition of its
--- own, since a later alarm may share an entry
+-- the cause of the kernel entry that an alarm makes, and the entry of the system block: "the alarm
+-- number otherwise". A definition of its own, since a later alarm may share an entry
 abbrev pub alarmCause : Alarm → ℕ
 alarmCause a = alarmNumber a
 

@@ -1,4 +1,5 @@
--- Document 01, "Numbers 1 to 16": the refusals 1 to 7, and the four calls, for every input: a fresh desk, a step, a run, a level request.
+-- Document 01, "Numbers 1 to 16": the refusals 1 to 7, and the four calls, for every input: a fresh
+-- desk, a step, a run, a level request.
 use Prim.Native.Nat.{ℕ, zero, suc}
 use mathlib.Core.Bool.{Bool, not, _&&_}
 use mathlib.Core.List.{List, [], _∷_}
@@ -19,7 +20,8 @@ use Rattle.machine.specs.declared.Reply.{Reply}
 use Rattle.machine.specs.declared.StepReply.{StepReply}
 use Rattle.machine.specs.declared.RunReply.{RunReply}
 use Rattle.machine.specs.Words.{pick, Memory}
-use Rattle.machine.specs.State.{allowedLength, validStatus, isPending, withLevel, systemBlockBytes, controlBlockBytes, blockFits, mapFits, isRunning, deskWith}
+use Rattle.machine.specs.State.{allowedLength, validStatus, isPending, withLevel, systemBlockBytes}
+use Rattle.machine.specs.State.{controlBlockBytes, blockFits, mapFits, isRunning, deskWith}
 use Rattle.machine.specs.Map.{commit}
 use Rattle.machine.specs.Steps.{Event, quiet, entered, stopped, Outcome, oneStep}
 
@@ -72,7 +74,8 @@ noMap = record { base = record { 0 = 0 }; length = 0 }
 
 unfoldable pub freshRefusal : ℕ → RealAddress → RealAddress → Answer
 freshRefusal n system control = firstRefused
-    ((passes1 n, refusal.MemoryLength) ∷ (passes2 system n, refusal.SystemBlock) ∷ (passes3 control n, refusal.ControlBlock) ∷ [])
+    ((passes1 n, refusal.MemoryLength) ∷ (passes2 system n, refusal.SystemBlock)
+    ∷ (passes3 control n, refusal.ControlBlock) ∷ [])
 
 abbrev pub freshDesk : RealAddress → RealAddress → VirtualAddress → Desk
 freshDesk system control start = record {
@@ -136,8 +139,9 @@ abbrev pub stepAnswered : Answer → Event → StepAnswer
 stepAnswered Accepted e = eventAnswer e
 stepAnswered (Refused k) e = stepAnswer.Refused k
 
--- the paper's number of a step's answer: a refusal's, a cause, a stop's number; 0 for a command done, for which the paper has none. The case tells which it
--- is: 0 is also HALT's stop, 1 also the cause of a system call, and 8 to 15 are causes and stops
+-- the paper's number of a step's answer: a refusal's, a cause, a stop's number; 0 for a command
+-- done, for which the paper has none. The case tells which it is: 0 is also HALT's stop, 1 also the
+-- cause of a system call, and 8 to 15 are causes and stops
 abbrev pub stepAnswerNumber : StepAnswer → ℕ
 stepAnswerNumber (stepAnswer.Refused k) = refusalNumber k
 stepAnswerNumber stepAnswer.Done = 0
@@ -151,7 +155,12 @@ pub record Stepped : Type 0 where
 
 unfoldable pub stepOf : Desk → Memory → Stepped
 stepOf d m = record {
-  reply = record { answer = stepAnswered (stepRefusal d (length m)) ((stepOutcome d m) .event); desk = (stepOutcome d m) .desk };
+  reply =
+      record {
+        answer = stepAnswered (stepRefusal d (length m))
+            ((stepOutcome d m) .event);
+        desk = (stepOutcome d m) .desk;
+      };
   memory = commit ((stepOutcome d m) .writes) m;
 }
 
@@ -179,10 +188,13 @@ pub record Ran : Type 0 where
 abbrev pub ran : Answer → ℕ → Desk → Memory → Ran
 ran a k d m = record { reply = record { answer = a; steps = k; desk = d }; memory = m }
 
--- n steps more, after k. A step of a desk that was not refused is not refused either while the desk runs
+-- n steps more, after k. A step of a desk that was not refused is not refused either while the desk
+-- runs
 unfoldable pub stepsOf : ℕ → ℕ → Desk → Memory → Ran
 stepsOf zero k d m = ran Accepted k d m
-stepsOf (suc n) k d m = pick (isRunning (d .mark)) (stepsOf n (suc k) ((stepOutcome d m) .desk) (commit ((stepOutcome d m) .writes) m)) (ran Accepted k d m)
+stepsOf (suc n) k d m =
+    pick (isRunning (d .mark)) (stepsOf n (suc k) ((stepOutcome d m) .desk) (commit ((stepOutcome d m) .writes) m))
+    (ran Accepted k d m)
 
 unfoldable pub runUnless : Answer → Desk → Memory → Ran → Ran
 runUnless Accepted d m o = o

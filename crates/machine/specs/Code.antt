@@ -1,4 +1,5 @@
--- Document 01, "Code": the table of command bytes, with the count, sizes and roles of each command's operands.
+-- Document 01, "Code": the table of command bytes, with the count, sizes and roles of each
+-- command's operands.
 use Prim.Native.Nat.{ℕ, _+_, _-_}
 use mathlib.Core.Bool.{_&&_}
 use mathlib.Core.List.{List, [], _∷_}
@@ -129,7 +130,8 @@ unfoldable pub knownIn : List Row → ℕ → Option Known
 knownIn [] b = none
 knownIn (one n c os ∷ rows) b = pick (eqb b n) (some (record { command = c; operands = os })) (knownIn rows b)
 knownIn (sized n c os ∷ rows) b =
-    pick (leb n b && ltb b (n + 3)) (some (record { command = common (c (sizeAt (b - n))); operands = os (sizeAt (b - n)) })) (knownIn rows b)
+    pick (leb n b && ltb b (n + 3))
+    (some (record { command = common (c (sizeAt (b - n))); operands = os (sizeAt (b - n)) })) (knownIn rows b)
 
 unfoldable pub known : ℕ → Option Known
 known b = knownIn table b

@@ -1,5 +1,6 @@
--- Document 01, "One step": what one command does, from what it sees. "byte, mode, then each operand left to right .., the stack bytes read, from SP
--- upward, the operation, the bytes written". A command sees memory through a view alone, the memory from its start.
+-- Document 01, "One step": what one command does, from what it sees. "byte, mode, then each operand
+-- left to right .., the stack bytes read, from SP upward, the operation, the bytes written". A
+-- command sees memory through a view alone, the memory from its start.
 use Prim.Native.Nat.{ℕ, zero, suc, _+_, _*_, _/_}
 use mathlib.Core.Bool.{Bool, true, not, _||_}
 use mathlib.Core.List.{[], _++_}
@@ -16,7 +17,9 @@ use Rattle.machine.specs.Words.{pick, lengthOf, span, bytesOf, raised, l
 use Rattle.machine.specs.State.{Registers, reg, flagN, flagZ, flagV, flagC}
 use Rattle.machine.specs.Alarms.{OrAlarm, got, alarm, _>>=_}
 use Rattle.machine.specs.Map.{View, readBytes, VirtualWrites, writesFrom}
-use Rattle.machine.specs.Code.{Condition, JUMP, JEQ, JNE, JGT, JGE, JLT, JLE, JV, JC, Common, result, CMP, PUSHR, POPR, jump, CALL, RET, UserOnly, systemCall, KernelOnly, HALT, RESUME, Command, common, userOnly, kernelOnly, Known, known}
+use Rattle.machine.specs.Code.{Condition, JUMP, JEQ, JNE, JGT, JGE, JLT, JLE, JV, JC, Common, result, CMP}
+use Rattle.machine.specs.Code.{PUSHR, POPR, jump, CALL, RET, UserOnly, systemCall, KernelOnly, HALT, RESUME}
+use Rattle.machine.specs.Code.{Command, common, userOnly, kernelOnly, Known, known}
 use Rattle.machine.specs.Operands.{virtual, past, Operands, operandsOf}
 use Rattle.machine.specs.Integers.{natural, operate, compared}
 
@@ -37,13 +40,15 @@ keptRest L old x = old / span L * span L + natural L x
 -- a result of L bytes goes to its target; every command that gives a result has one
 unfoldable pub stored : ℕ → Result → Target → Registers → Done
 stored L x Nowhere r = record { registers = r; flags = x .flags; writes = [] }
-stored L x (Register i) r = record { registers = set r i (keptRest L (reg r i) (x .value)); flags = x .flags; writes = [] }
+stored L x (Register i) r =
+    record { registers = set r i (keptRest L (reg r i) (x .value)); flags = x .flags; writes = [] }
 stored L x (Memory a) r = record { registers = r; flags = x .flags; writes = writesFrom (a .0) (bytesOf L (x .value)) }
 
 -- ---- The stack
 
--- document 000, 2.5.1, PUSHR: "for i := 14 downto 0 do SP := SP - 4; S[SP] := Ri"; here the turns left, for i - 1 downto 0. sp is SP as the turns
--- before left it, r the registers from the start, ws what the turns before write, upward, f the flags, which stay
+-- document 000, 2.5.1, PUSHR: "for i := 14 downto 0 do SP := SP - 4; S[SP] := Ri"; here the turns
+-- left, for i - 1 downto 0. sp is SP as the turns before left it, r the registers from the start,
+-- ws what the turns before write, upward, f the flags, which stay
 unfoldable pub pushed : ℕ → ℕ → Registers → VirtualWrites → ℕ → Done
 pushed zero sp r ws f = record { registers = set r 14 sp; flags = f; writes = ws }
 pushed (suc i) sp r ws f =
@@ -96,10 +101,22 @@ unfoldable pub commonDone : Common → View → ℕ → Operands → OrAlarm Don
 commonDone (result op s) v f o = do
   x ← operate op (lengthOf s) (natural (lengthOf s) (o .first)) (natural (lengthOf s) (o .second))
   got (stored (lengthOf s) x (o .target) (o .registers))
-commonDone (CMP s) v f o = got (record { registers = o .registers; flags = compared (lengthOf s) (natural (lengthOf s) (o .first)) (natural (lengthOf s) (o .second)); writes = [] })
+commonDone (CMP s) v f o =
+    got (record {
+      registers = o .registers;
+      flags = compared (lengthOf s) (natural (lengthOf s) (o .first))
+          (natural (lengthOf s) (o .second));
+      writes = [];
+    })
 commonDone PUSHR v f o = got (pushed 15 (reg (o .registers) 14) (o .registers) [] f)
 commonDone POPR v f o = poppedDone v (o .registers) f
-commonDone (jump c) v f o = got (record { registers = pick (jumps c f) (set (o .registers) 15 (o .first)) (o .registers); flags = f; writes = [] })
+commonDone (jump c) v f o =
+    got (record {
+      registers = pick (jumps c f) (set (o .registers) 15 (o .first))
+          (o .registers);
+      flags = f;
+      writes = [];
+    })
 commonDone CALL v f o = got (called (o .first) (o .registers) f)
 commonDone RET v f o = returnedDone v (o .registers) f
 
@@ -115,7 +132,8 @@ pub data Allowed (S : Type 0) : Type 0 where
   both : Common → Allowed S
   only : S → Allowed S
 
--- 13: "HALT or RESUME in user mode, or a system call in kernel mode"; its argument is the command byte
+-- 13: "HALT or RESUME in user mode, or a system call in kernel mode"; its argument is the command
+-- byte
 unfoldable pub allowedInUserMode : ℕ → Command → OrAlarm (Allowed UserOnly)
 allowedInUserMode b (common c) = got (both c)
 allowedInUserMode b (userOnly s) = got (only s)
@@ -131,14 +149,16 @@ pub data Completion (E : Type 0) : Type 0 where
   done : Done → Completion E
   ofMode : E → Completion E
 
-unfoldable pub completionOf : {S E : Type 0} → (S → Operands → E) → Allowed S → View → ℕ → Operands → OrAlarm (Completion E)
+unfoldable pub completionOf : {S E : Type 0} → (S → Operands → E) → Allowed S → View → ℕ → Operands
+    → OrAlarm (Completion E)
 completionOf effect (both c) v f o = do
   d ← commonDone c v f o
   got (done d)
 completionOf effect (only s) v f o = got (ofMode (effect s o))
 
 -- the order inside a command
-unfoldable pub commandBy : {S E : Type 0} → (ℕ → Command → OrAlarm (Allowed S)) → (S → Operands → E) → View → Registers → ℕ → OrAlarm (Completion E)
+unfoldable pub commandBy : {S E : Type 0} → (ℕ → Command → OrAlarm (Allowed S)) → (S → Operands → E) → View
+    → Registers → ℕ → OrAlarm (Completion E)
 commandBy mode effect v r f = do
   b ← readBytes v Fetch 1 (virtual (reg r 15))
   k ← knownOr12 b (known b)

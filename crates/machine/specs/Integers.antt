@@ -1,5 +1,5 @@
--- Integer results and flags: document 000, 1.1.1 and 1.1.2, 2.5.1 to 2.5.5, and document 01, "One step", for any width of L bytes.
--- a is the first operand's value S[a1], b the second's, S[a2].
+-- Integer results and flags: document 000, 1.1.1 and 1.1.2, 2.5.1 to 2.5.5, and document 01, "One
+-- step", for any width of L bytes. a is the first operand's value S[a1], b the second's, S[a2].
 use Prim.Native.Nat.{ℕ, _+_, _-_, _*_, _/_, _%_, _^_}
 use mathlib.Core.Bool.{Bool, false, not, _&&_}
 use lib.Dec.{ltb, leb, eqb}
@@ -11,7 +11,8 @@ use Rattle.machine.specs.declared.Result.{Result}
 use Rattle.machine.specs.Words.{pick, span}
 use Rattle.machine.specs.State.{flags}
 use Rattle.machine.specs.Alarms.{OrAlarm, got, alarm}
-use Rattle.machine.specs.Code.{Operation, MOVE, CLEAR, MOVEN, MOVEC, MOVEA, CONV, OR, ANDNOT, XOR, ADD, SUB, MULT, DIV, SH, ROT}
+use Rattle.machine.specs.Code.{Operation, MOVE, CLEAR, MOVEN, MOVEC, MOVEA, CONV, OR, ANDNOT, XOR, ADD, SUB}
+use Rattle.machine.specs.Code.{MULT, DIV, SH, ROT}
 
 -- ---- Numbers
 
@@ -77,9 +78,11 @@ multiplied L a b = exact L (signed L b *ℤ signed L a) false
 unfoldable pub divided : ℕ → ℕ → ℕ → Result
 divided L a b = exact L (quotZ (signed L b) (signed L a)) false
 
--- a zero bit from the right each time; "SH left sets V when the result's sign differs from the operand's"
+-- a zero bit from the right each time; "SH left sets V when the result's sign differs from the
+-- operand's"
 unfoldable pub shiftedLeft : ℕ → ℕ → Result
-shiftedLeft n b = let x = b * 2 ^ n % span 4 in resultOf 4 x (pick (negative 4 b) (not (negative 4 x)) (negative 4 x)) false
+shiftedLeft n b =
+    let x = b * 2 ^ n % span 4 in resultOf 4 x (pick (negative 4 b) (not (negative 4 x)) (negative 4 x)) false
 
 -- b0 from the left each time
 unfoldable pub shiftedRight : ℕ → ℕ → Result
@@ -89,7 +92,8 @@ shiftedRight n b = plain 4 (kept 4 (shrZ (signed 4 b) (2 ^ n)))
 unfoldable pub shifted : ℕ → ℕ → Result
 shifted a b = let n = signed 4 a in pick (nonNeg n) (shiftedLeft (natAbs n) b) (shiftedRight (natAbs n) b)
 
--- S[a1] times to the left, the bit that goes out coming in on the right; 32 times is none, and once to the right is 31 times to the left
+-- S[a1] times to the left, the bit that goes out coming in on the right; 32 times is none, and once
+-- to the right is 31 times to the left
 unfoldable pub rotated : ℕ → ℕ → Result
 rotated a b = let n = modulo 32 (signed 4 a) in plain 4 ((b * 2 ^ n + b / 2 ^ (32 - n)) % span 4)
 

@@ -1,5 +1,6 @@
--- Demand 3, with the last paragraph of document 01's "One step": a single claim about a list of steps and level requests, given alike to
--- two desks in user mode that are equal except in memory. No validity of state or memory is assumed. The words "reached", "writable reached" and "the map's
+-- Demand 3, with the last paragraph of document 01's "One step": a single claim about a list of
+-- steps and level requests, given alike to two desks in user mode that are equal except in memory.
+-- No validity of state or memory is assumed. The words "reached", "writable reached" and "the map's
 -- bytes" are those of Map.antt, and mean the map as it is before the first call.
 use Prim.Native.Nat.{ℕ, suc, _+_, _≤_, _<_}
 use mathlib.Core.Bool.{true}
@@ -32,7 +33,8 @@ abbrev pub outcomeOf : Call → Desk → Memory → Outcome
 outcomeOf step d m = stepOutcome d m
 outcomeOf (request level) d m = requestOutcome d level
 
--- "Each call gets the state that the call before it returned, each step also the memory as the steps before it left it"
+-- "Each call gets the state that the call before it returned, each step also the memory as the
+-- steps before it left it"
 abbrev pub nextDesk : Call → Desk → Memory → Desk
 nextDesk c d m = (outcomeOf c d m) .desk
 
@@ -69,8 +71,8 @@ Holds mapNotWritable d m n = (a : ℕ) → InMap (d .map) m a → WritableReache
 
 -- ---- The conclusions; o and m are desk and memory before the first call
 
--- what a call may change in the memory x, which it leaves as y: "Until then no byte outside writable reached frames changes; the entry itself writes only
--- its 72 saved bytes, a stop none"
+-- what a call may change in the memory x, which it leaves as y: "Until then no byte outside
+-- writable reached frames changes; the entry itself writes only its 72 saved bytes, a stop none"
 abbrev pub Changed : Desk → Memory → Event → Memory → Memory → Type 0
 Changed o m quiet x y =
     (length y ≡ length x) × ((a : ℕ) → (WritableReached (o .map) m (frameAround a) → ⊥) → byteAt y a ≡ byteAt x a)
@@ -81,7 +83,8 @@ Changed o m (stopped n) x y = y ≡ x
 pub record Alike (o : Desk) (m : Memory) (c : Call) (d : Desk) (x : Memory) (e : Desk) (y : Memory) : Type 0 where
   -- "they give the same refusals"
   pub refusals : refusalOf c d x ≡ refusalOf c e y
-  -- "and show equal registers, flags": "the whole state that travels by value (status, pending set and mark too)"
+  -- "and show equal registers, flags": "the whole state that travels by value (status, pending set
+  -- and mark too)"
   pub desks : nextDesk c d x ≡ nextDesk c e y
   -- "and reached bytes after each of them"
   pub reached : (a : ℕ) → Reached (o .map) m (frameAround a) → byteAt (nextMemory c d x) a ≡ byteAt (nextMemory c e y) a
@@ -94,7 +97,8 @@ pub record Alike (o : Desk) (m : Memory) (c : Call) (d : Desk) (x : Memory) (e :
 abbrev pub AllAlike : Desk → Memory → List Call → Desk → Memory → Desk → Memory → Type 0
 AllAlike o m [] d x e y = Unit {0}
 AllAlike o m (c ∷ cs) d x e y =
-    Alike o m c d x e y × (eventOf c d x ≡ quiet → AllAlike o m cs (nextDesk c d x) (nextMemory c d x) (nextDesk c e y) (nextMemory c e y))
+    Alike o m c d x e y × (eventOf c d x ≡ quiet → AllAlike o m cs (nextDesk c d x) (nextMemory c d x)
+    (nextDesk c e y) (nextMemory c e y))
 
 -- the place in the list, from i, of the first kernel entry or stop, and which it is
 abbrev pub endAt : ℕ → Event → Option (ℕ × Event) → Option (ℕ × Event)

@@ -1,4 +1,5 @@
--- Document 01, "Map": map entries, the lookup of one byte with alarms 8 to 11, and the words "damaged", "reached" and "writable reached".
+-- Document 01, "Map": map entries, the lookup of one byte with alarms 8 to 11, and the words
+-- "damaged", "reached" and "writable reached".
 use Prim.Native.Nat.{ℕ, zero, suc, _+_, _-_, _*_, _/_, _%_, _≤_, _<_}
 use mathlib.Core.Path.{_≡_}
 use mathlib.Core.Bool.{Bool, true, false, _&&_}
@@ -23,7 +24,8 @@ use Rattle.machine.specs.State.{frameStart, userMode}
 abbrev pub pageOf : VirtualAddress → ℕ
 pageOf x = x .0 / 512
 
--- "the four-byte entry at map base + 4 × p"; an entry that is not wholly inside the memory counts for nothing: it reads as absent
+-- "the four-byte entry at map base + 4 × p"; an entry that is not wholly inside the memory counts
+-- for nothing: it reads as absent
 unfoldable pub mapEntry : Map → Memory → ℕ → ℕ
 mapEntry map m p = pick (leb (map .base .0 + 4 * p + 4) (length m)) (wordAt m (map .base .0 + 4 * p)) 0
 
@@ -67,8 +69,8 @@ allows Fetch e = true
 allows Read e = true
 allows Write e = writable e
 
--- "For one byte 8 to 11 are tried in number order"; their argument is "the byte's address". The tests: the page is below the map length, the entry present,
--- undamaged, and open to the access
+-- "For one byte 8 to 11 are tried in number order"; their argument is "the byte's address". The
+-- tests: the page is below the map length, the entry present, undamaged, and open to the access
 unfoldable pub inNumberOrder : Bool → Bool → Bool → Bool → VirtualAddress → Found → OrAlarm Found
 inNumberOrder false there whole allowed x f = alarm alarms.Address (x .0)
 inNumberOrder true false whole allowed x f = alarm alarms.Absent (x .0)
@@ -83,7 +85,8 @@ View = VirtualAddress → Access → OrAlarm Found
 -- user mode
 unfoldable pub mapped : Map → Memory → View
 mapped map m x w = let e = mapEntry map m (pageOf x) in
-    inNumberOrder (ltb (pageOf x) (map .length)) (present e) (undamaged (length m) e) (allows w e) x (foundAt m (inFrame (frameOf e) x))
+    inNumberOrder (ltb (pageOf x) (map .length)) (present e) (undamaged (length m) e) (allows w e) x
+    (foundAt m (inFrame (frameOf e) x))
 
 -- "In kernel mode an address is real"
 abbrev pub realOf : VirtualAddress → RealAddress
@@ -144,7 +147,8 @@ commit (w ∷ ws) m = commit ws (set m (w .0 .0) (w .1))
 
 -- ---- The words of the paper
 
--- entry p of the map of memory m names frame f: "a present, undamaged entry with p below the map length names it"
+-- entry p of the map of memory m names frame f: "a present, undamaged entry with p below the map
+-- length names it"
 pub record Names (map : Map) (m : Memory) (p : ℕ) (f : FrameNumber) : Type 0 where
   pub below : p < map .length
   pub there : present (mapEntry map m p) ≡ true
@@ -156,14 +160,16 @@ pub record Reached (map : Map) (m : Memory) (f : FrameNumber) : Type 0 where
   pub page : ℕ
   pub names : Names map m page f
 
--- "Such an entry with the writable bit is a writable entry, and a frame that it names is a writable reached frame"
+-- "Such an entry with the writable bit is a writable entry, and a frame that it names is a writable
+-- reached frame"
 pub record WritableReached (map : Map) (m : Memory) (f : FrameNumber) : Type 0 where
   pub page : ℕ
   pub names : Names map m page f
   pub write : writable (mapEntry map m page) ≡ true
 
--- the byte at place a belongs to the map: "from map base up to, but not including, map base + 4 × map length"; "bytes past the memory, and entries not wholly
--- inside it, count for nothing", so the entry that the byte is part of lies inside
+-- the byte at place a belongs to the map: "from map base up to, but not including, map base + 4 ×
+-- map length"; "bytes past the memory, and entries not wholly inside it, count for nothing", so the
+-- entry that the byte is part of lies inside
 pub record InMap (map : Map) (m : Memory) (a : ℕ) : Type 0 where
   pub low : map .base .0 ≤ a
   pub high : a < map .base .0 + 4 * map .length

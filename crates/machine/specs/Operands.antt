@@ -1,4 +1,5 @@
--- Document 01, "Code": the nine forms of an operand, their rules, and what an operand gives a command.
+-- Document 01, "Code": the nine forms of an operand, their rules, and what an operand gives a
+-- command.
 use Prim.Native.Nat.{ℕ, suc, _+_, _*_, _/_, _%_}
 use mathlib.Core.Bool.{Bool, true, false, not, _&&_}
 use mathlib.Core.List.{List, [], _∷_}
@@ -39,8 +40,8 @@ fieldsAt v a = do
 
 -- ---- Form rules
 
--- "A field that a form doesn't use is 0. A form byte above 8 breaks the form rules." Form 1: "the value in the last L bytes of z, the others being 0".
--- "Forms 7 and 8 exclude x = 15."
+-- "A field that a form doesn't use is 0. A form byte above 8 breaks the form rules." Form 1: "the
+-- value in the last L bytes of z, the others being 0". "Forms 7 and 8 exclude x = 15."
 unfoldable pub keepsRules : ℕ → Fields → Bool
 keepsRules L k =
     pick (eqb (k .form) 0) (eqb (k .x) 0 && eqb (k .y) 0)
@@ -73,8 +74,9 @@ at l r = got (record { location = l; registers = r })
 abbrev pub wordBehind : View → ℕ → OrAlarm ℕ
 wordBehind v a = readBytes v Read 4 (virtual a)
 
--- by form, for an operand of L bytes: 0 z; 1 the value z; 2 register x; 3 z + Rx; 4 z + Rx + Ry × L; 5 the word at z + Rx; 6 that word + Ry × L;
--- 7 Rx lowered by L, then address Rx; 8 address Rx, then Rx raised by L
+-- by form, for an operand of L bytes: 0 z; 1 the value z; 2 register x; 3 z + Rx; 4 z + Rx + Ry ×
+-- L; 5 the word at z + Rx; 6 that word + Ry × L; 7 Rx lowered by L, then address Rx; 8 address Rx,
+-- then Rx raised by L
 unfoldable pub byForm : View → ℕ → Registers → Fields → OrAlarm Operand
 byForm v L r k =
     let rx = reg r (k .x) in
@@ -98,7 +100,8 @@ past n r = set r 15 (raised (reg r 15) n)
 abbrev pub formed : View → ℕ → ℕ → Registers → Fields → OrAlarm Operand
 formed v place L r k = pick (keepsRules L k) (byForm v L r k) (alarm alarms.Operand place)
 
--- "fetch, form, address" of the operand at R15: "Inside an operand R15 is the address just after its six bytes"
+-- "fetch, form, address" of the operand at R15: "Inside an operand R15 is the address just after
+-- its six bytes"
 unfoldable pub operandAt : View → ℕ → ℕ → Registers → OrAlarm Operand
 operandAt v place L r = do
   k ← fieldsAt v (reg r 15)
@@ -124,7 +127,8 @@ targetIn place (immediate z) = alarm alarms.Operand place
 targetIn place (register x) = got (Register x)
 targetIn place (memory a) = got (Memory a)
 
--- a value or an address for the operation, 0 where the operand is only written, and where its result goes
+-- a value or an address for the operation, 0 where the operand is only written, and where its
+-- result goes
 pub record Taken : Type 0 where
   pub number : ℕ
   pub target : Target
@@ -149,7 +153,8 @@ takenBy v place L p Update = do
 
 -- ---- "each operand left to right"
 
--- what the operands give: the first's and the second's number, where the last one's result goes, and the registers after them
+-- what the operands give: the first's and the second's number, where the last one's result goes,
+-- and the registers after them
 pub record Operands : Type 0 where
   pub first : ℕ
   pub second : ℕ

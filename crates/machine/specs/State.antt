@@ -1,5 +1,5 @@
--- Document 01, "What the desk holds": memory and frames, registers, status word, pending set, system block, control block, mark.
--- The struct is `Desk` of src/lib.rt.
+-- Document 01, "What the desk holds": memory and frames, registers, status word, pending set,
+-- system block, control block, mark. The struct is `Desk` of src/lib.rt.
 use Prim.Native.Nat.{ℕ, zero, suc, _+_, _-_, _*_, _/_, _%_, _^_}
 use mathlib.Core.Bool.{Bool, true, false, not, _&&_}
 use mathlib.Core.List.{List, [], _∷_, _++_}

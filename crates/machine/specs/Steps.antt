@@ -1,6 +1,7 @@
--- Document 01, "One step": the interrupt that is due, what becomes of a command in user mode and in kernel mode, kernel entry, RESUME, stops.
--- A command comes to a `Completion` (Commands.antt); a step in user mode takes a `Plan` from it, without the system block; a step's `Outcome` is the state that
--- it leaves, an `Event`, and the bytes that it writes.
+-- Document 01, "One step": the interrupt that is due, what becomes of a command in user mode and in
+-- kernel mode, kernel entry, RESUME, stops. A command comes to a `Completion` (Commands.antt); a
+-- step in user mode takes a `Plan` from it, without the system block; a step's `Outcome` is the
+-- state that it leaves, an `Event`, and the bytes that it writes.
 use Prim.Native.Nat.{ℕ, zero, suc, _+_}
 use mathlib.Core.Bool.{Bool, true, false, _&&_}
 use mathlib.Core.List.{List, []}
@@ -12,14 +13,19 @@ use Rattle.machine.specs.declared.Map.{Map}
 use Rattle.machine.specs.declared.Mark.the-variants.{Stopped}
 use Rattle.machine.specs.declared.Desk.{Desk}
 use Rattle.machine.specs.Words.{pick, Memory, wordAt, wordsAt}
-use Rattle.machine.specs.State.{Registers, userMode, levelOf, flagsOf, withFlags, validUserStatus, validKernelStatus, isPending, withoutLevel, systemBlockOf, entryR15, entryStatus, controlBlockBytes, savedBytes, blockFits, mapFits, deskWith, deskResumed}
+use Rattle.machine.specs.State.{Registers, userMode, levelOf, flagsOf, withFlags, validUserStatus}
+use Rattle.machine.specs.State.{validKernelStatus, isPending, withoutLevel, systemBlockOf, entryR15}
+use Rattle.machine.specs.State.{entryStatus, controlBlockBytes, savedBytes, blockFits, mapFits, deskWith}
+use Rattle.machine.specs.State.{deskResumed}
 use Rattle.machine.specs.Alarms.{alarmNumber, alarmCause, OrAlarm, got, alarm}
 use Rattle.machine.specs.Map.{View, realOf, viewOf, RealWrites, realWritesFrom, located}
-use Rattle.machine.specs.Commands.{Done, Completion, done, ofMode, SystemCall, userCommand, KernelEffect, halts, resumes, kernelCommand}
+use Rattle.machine.specs.Commands.{Done, Completion, done, ofMode, SystemCall, userCommand, KernelEffect, halts}
+use Rattle.machine.specs.Commands.{resumes, kernelCommand}
 
 -- ---- What a step shows
 
--- quiet: nothing but the state that it leaves (a refused call and a level request too); a kernel entry with its cause and saved bytes; a stop with its number
+-- quiet: nothing but the state that it leaves (a refused call and a level request too); a kernel
+-- entry with its cause and saved bytes; a stop with its number
 pub data Event : Type 0 where
   quiet : Event
   entered : ℕ → List ℕ → Event
@@ -34,7 +40,8 @@ pub record Outcome : Type 0 where
 
 -- "stops the desk with its number and all else as before the command"
 unfoldable pub stop : ℕ → Desk → Outcome
-stop n d = record { desk = deskWith d (d .registers) (d .status) (d .pending) (Stopped n); event = stopped n; writes = [] }
+stop n d =
+    record { desk = deskWith d (d .registers) (d .status) (d .pending) (Stopped n); event = stopped n; writes = [] }
 
 -- "HALT stops with 0, R15 past it"
 unfoldable pub halt : Registers → Desk → Outcome
@@ -57,18 +64,21 @@ unfoldable pub due : ℕ → ℕ → ℕ → ℕ
 due zero p l = 0
 due (suc k) p l = pick (isPending p (suc k) && ltb l (suc k)) (suc k) (due k p l)
 
--- "An alarm undoes the command's register changes and writes nothing": it saves the registers r from the command's start
+-- "An alarm undoes the command's register changes and writes nothing": it saves the registers r
+-- from the command's start
 unfoldable pub userWritten : Registers → ℕ → ℕ → Done → OrAlarm RealWrites → Plan
 userWritten r s p d (got ws) = continues (d .registers) (withFlags s (d .flags)) ws
 userWritten r s p d (alarm n x) = enters (alarmCause n) r x p
 
--- cause "1 for a system call (argument its value, saved R15 the next command)", "the alarm number otherwise (saved R15 the command's own address)"
+-- cause "1 for a system call (argument its value, saved R15 the next command)", "the alarm number
+-- otherwise (saved R15 the command's own address)"
 unfoldable pub ofUserCommand : Registers → ℕ → ℕ → View → OrAlarm (Completion SystemCall) → Plan
 ofUserCommand r s p v (got (done d)) = userWritten r s p d (located v (d .writes))
 ofUserCommand r s p v (got (ofMode c)) = enters 1 (c .registers) (c .argument) p
 ofUserCommand r s p v (alarm n x) = enters (alarmCause n) r x p
 
--- "the highest pending level above the status level is entered and its pending bit cleared": cause "16 + level", "argument the level"
+-- "the highest pending level above the status level is entered and its pending bit cleared": cause
+-- "16 + level", "argument the level"
 unfoldable pub interrupted : ℕ → Registers → ℕ → Plan → Plan
 interrupted zero r p otherwise = otherwise
 interrupted (suc k) r p otherwise = enters (16 + suc k) r (suc k) (withoutLevel p (suc k))
@@ -78,7 +88,8 @@ userPlan r s p v = interrupted (due 15 p (levelOf s)) r p (ofUserCommand r s p v
 
 -- ---- Kernel entry
 
--- cause i, registers r to save, argument x, pending set p left, new R15 and new status; 16: "the system block's entry holds no valid kernel status"
+-- cause i, registers r to save, argument x, pending set p left, new R15 and new status; 16: "the
+-- system block's entry holds no valid kernel status"
 unfoldable pub enterIf : Bool → Desk → ℕ → Registers → ℕ → ℕ → ℕ → ℕ → Outcome
 enterIf false d i r x p new s = stop 16 d
 enterIf true d i r x p new s = record {
@@ -89,15 +100,18 @@ enterIf true d i r x p new s = record {
 
 unfoldable pub concluded : Desk → Memory → Plan → Outcome
 concluded d block (continues r s ws) = completed r s ws d
-concluded d block (enters i r x p) = enterIf (validKernelStatus (entryStatus block i)) d i r x p (entryR15 block i) (entryStatus block i)
+concluded d block (enters i r x p) =
+    enterIf (validKernelStatus (entryStatus block i)) d i r x p (entryR15 block i) (entryStatus block i)
 
 unfoldable pub userStep : Desk → View → Memory → Outcome
 userStep d v block = concluded d block (userPlan (d .registers) (d .status) (d .pending) v)
 
 -- ---- Kernel mode: "an alarm stops the desk with its number"
 
--- RESUME of the block at address a, which is real: it "loads R0 to R15, status, map base and map length from the control block at its address, which becomes
--- the control block"; 14 where "RESUME's block breaks 3 or 4 or its status isn't a valid user status", since "A block that doesn't fit is alarm 14, never 8"
+-- RESUME of the block at address a, which is real: it "loads R0 to R15, status, map base and map
+-- length from the control block at its address, which becomes the control block"; 14 where
+-- "RESUME's block breaks 3 or 4 or its status isn't a valid user status", since "A block that
+-- doesn't fit is alarm 14, never 8"
 unfoldable pub resume : Desk → Memory → RealAddress → Outcome
 resume d m a =
     let s = wordAt m (a .0 + 64) in

@@ -1,5 +1,6 @@
--- Document 01, "Tried values": those marked *, which "are proved in one table", and the memory lengths. *1 to *11 are whole steps of a desk over code in its
--- memory. The proof is `tried-values` of proofs/TriedValues.antt.
+-- Document 01, "Tried values": those marked *, which "are proved in one table", and the memory
+-- lengths. *1 to *11 are whole steps of a desk over code in its memory. The proof is `tried-values`
+-- of proofs/TriedValues.antt.
 use Prim.Native.Nat.{ℕ, _+_, _-_, _*_}
 use mathlib.Core.Path.{_≡_}
 use mathlib.Core.Bool.{true, false}
@@ -36,7 +37,8 @@ minus n = 0x1_0000_0000 - n
 unfoldable pub memoryWith : ℕ → List ℕ → Memory
 memoryWith n code = sets (replicate n 0) 400 code
 
--- running, in kernel mode, level 0, flags clear, nothing pending, no map; system block at 0, control block at 256. Ri is x, R15 is 400, the others are 0
+-- running, in kernel mode, level 0, flags clear, nothing pending, no map; system block at 0,
+-- control block at 256. Ri is x, R15 is 400, the others are 0
 unfoldable pub kernelDesk : ℕ → ℕ → Desk
 kernelDesk i x = record {
   registers = set (set (replicate 16 0) 15 400) i x;
@@ -68,22 +70,27 @@ afterPOPR = stepOf (afterPUSHR .reply .desk) (afterPUSHR .memory)
 
 -- ---- The table
 
--- the command bytes in it: 01h PUSHR, 02h POPR, 10h MOVE B, 12h MOVE W, 21h CONV, 40h ADD B, 48h SUB B, 58h DIV B, 5Ah DIV W, 60h SH, 61h ROT, 66h CMP W
+-- the command bytes in it: 01h PUSHR, 02h POPR, 10h MOVE B, 12h MOVE W, 21h CONV, 40h ADD B, 48h
+-- SUB B, 58h DIV B, 5Ah DIV W, 60h SH, 61h ROT, 66h CMP W
 pub record TriedValues : Type 0 where
   -- the paper's bytes for MOVE B I 2,R0: "10 01 00 00 00 00 02 02 00 00 00 00 00"
-  pub code : 0x10 ∷ I 2 ++ R 0 ≡ 0x10 ∷ 0x01 ∷ 0x00 ∷ 0x00 ∷ 0x00 ∷ 0x00 ∷ 0x02 ∷ 0x02 ∷ 0x00 ∷ 0x00 ∷ 0x00 ∷ 0x00 ∷ 0x00 ∷ []
+  pub code : 0x10 ∷ I 2 ++ R 0 ≡ 0x10 ∷ 0x01 ∷ 0x00 ∷ 0x00 ∷ 0x00 ∷ 0x00 ∷ 0x02 ∷ 0x02 ∷ 0x00 ∷ 0x00 ∷ 0x00 ∷ 0x00
+      ∷ 0x00 ∷ []
   -- *1: "01020304h is stored 01 02 03 04", by MOVE W I 01020304h,480
   pub star1 : take 4 (drop 480 ((ranOn 0 (0x12 ∷ I 0x0102_0304 ++ A 480)) .memory)) ≡ 0x01 ∷ 0x02 ∷ 0x03 ∷ 0x04 ∷ []
   -- *2: "R0 = FFFFFFFFh, MOVE B I 2,R0 gives FFFFFF02h"
   pub star2 : registerAfter 0 (ranOn 0xFFFF_FFFF (0x10 ∷ I 2 ++ R 0)) ≡ 0xFFFF_FF02
   -- *3: "ADD B I 1 to 7Fh gives 80h, flags N V"
-  pub star3 : (registerAfter 0 (ranOn 0x7F (0x40 ∷ I 1 ++ R 0)) ≡ 0x80) × (flagsAfter (ranOn 0x7F (0x40 ∷ I 1 ++ R 0)) ≡ 8 + 2)
+  pub star3 : (registerAfter 0 (ranOn 0x7F (0x40 ∷ I 1 ++ R 0)) ≡ 0x80)
+      × (flagsAfter (ranOn 0x7F (0x40 ∷ I 1 ++ R 0)) ≡ 8 + 2)
   -- *4: "SUB B I 1 from 0 gives FFh, N C"
-  pub star4 : (registerAfter 0 (ranOn 0 (0x48 ∷ I 1 ++ R 0)) ≡ 0xFF) × (flagsAfter (ranOn 0 (0x48 ∷ I 1 ++ R 0)) ≡ 8 + 1)
+  pub star4 : (registerAfter 0 (ranOn 0 (0x48 ∷ I 1 ++ R 0)) ≡ 0xFF)
+      × (flagsAfter (ranOn 0 (0x48 ∷ I 1 ++ R 0)) ≡ 8 + 1)
   -- *5: "CMP W I 2,I 3 sets N only"
   pub star5 : flagsAfter (ranOn 0 (0x66 ∷ I 2 ++ I 3)) ≡ 8
   -- *6: "DIV B, 80h by FFh gives 80h, N V"
-  pub star6 : (registerAfter 0 (ranOn 0x80 (0x58 ∷ I 0xFF ++ R 0)) ≡ 0x80) × (flagsAfter (ranOn 0x80 (0x58 ∷ I 0xFF ++ R 0)) ≡ 8 + 2)
+  pub star6 : (registerAfter 0 (ranOn 0x80 (0x58 ∷ I 0xFF ++ R 0)) ≡ 0x80)
+      × (flagsAfter (ranOn 0x80 (0x58 ∷ I 0xFF ++ R 0)) ≡ 8 + 2)
   -- *7: "DIV W, −7 by 2 gives −3"
   pub star7 : registerAfter 0 (ranOn (minus 7) (0x5A ∷ I 2 ++ R 0)) ≡ minus 3
   -- *8: "CONV 80h gives FFFFFF80h"
@@ -93,6 +100,7 @@ pub record TriedValues : Type 0 where
   -- *10: "SH 80000000h by −31 gives FFFFFFFFh"
   pub star10 : registerAfter 0 (ranOn 0 (0x60 ∷ I (minus 31) ++ I 0x8000_0000 ++ R 0)) ≡ 0xFFFF_FFFF
   -- *11: "SP = 1000, PUSHR stores 996 at 996 and ends with SP = 940; POPR brings 1000"
-  pub star11 : (wordAt (afterPUSHR .memory) 996 ≡ 996) × (registerAfter 14 afterPUSHR ≡ 940) × (registerAfter 14 afterPOPR ≡ 1000)
+  pub star11 : (wordAt (afterPUSHR .memory) 996 ≡ 996) × (registerAfter 14 afterPUSHR ≡ 940)
+      × (registerAfter 14 afterPOPR ≡ 1000)
   -- "memory 512 and 1,024 accepted, 513 refused"
   pub lengths : (allowedLength 512 ≡ true) × (allowedLength 1024 ≡ true) × (allowedLength 513 ≡ false)

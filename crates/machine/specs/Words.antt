@@ -1,5 +1,5 @@
--- Bytes, words and sizes. Document 01: "Bytes of a value stand highest first (source document 000, 1.2). B, H, W are values of 1, 2, 4 bytes;
--- that length is L."
+-- Bytes, words and sizes. Document 01: "Bytes of a value stand highest first (source document 000,
+-- 1.2). B, H, W are values of 1, 2, 4 bytes; that length is L."
 use Prim.Native.Nat.{ℕ, zero, suc, _+_, _-_, _*_, _/_, _%_, _^_}
 use mathlib.Core.Bool.{Bool, true, false}
 use mathlib.Core.List.{List, [], _∷_, _++_}

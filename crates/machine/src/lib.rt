@@ -35,7 +35,8 @@ pub enum Size {
     W,
 }
 
-// What a command does with an operand: reads its value, uses its address, writes it, or reads and then writes it.
+// What a command does with an operand: reads its value, uses its address, writes it, or reads and
+// then writes it.
 pub enum Role {
     Value,
     Address,
@@ -109,7 +110,8 @@ pub enum Answer {
     Refused(Refusal),
 }
 
-// What a step came to: refused; a command done; a kernel entry with its cause; a stop with its number.
+// What a step came to: refused; a command done; a kernel entry with its cause; a stop with its
+// number.
 pub enum StepAnswer {
     Refused(Refusal),
     Done,
@@ -185,7 +187,8 @@ impl Desk {
         control: RealAddress,
         mark: Mark,
     ) -> Desk
-        ensures { λ r. ⌜ r ≡ record { registers = registers; status = status; pending = pending; map = map; system = system; control = control; mark = mark } ⌝ }
+        ensures { λ r. ⌜ r ≡ record
+            { registers = registers; status = status; pending = pending; map = map; system = system; control = control; mark = mark } ⌝ }
     {
         Desk {
             registers,
@@ -288,7 +291,8 @@ impl Answer {
 }
 
 impl StepAnswer {
-    // The number of its refusal, its cause or its stop; 0 for a command done. The case tells which: 0 is also a HALT, 1 also a system call.
+    // The number of its refusal, its cause or its stop; 0 for a command done. The case tells which:
+    // 0 is also a HALT, 1 also a system call.
     pub fn number(self) -> u32
         ensures { λ r. ⌜ r ≡ stepAnswerNumber self ⌝ }
     {

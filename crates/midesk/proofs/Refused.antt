@@ -14,16 +14,19 @@ use Rattle.midesk.specs.Exports.{repliedOf, requestCall, stepLeft, stepC
 
 module _ (b : List ℕ) (l : length b ≡ stateBytes) (small : (i : ℕ) → byteAt b i < 256) where
   -- a refused step leaves the state's bytes and the memory
-  pub refused-step : (m : Memory) (k : Refusal) → stepRefusal (unpacked b) (length m) ≡ Refused k → ((stepCall b m) .state ≡ b) × ((stepCall b m) .memory ≡ m)
+  pub refused-step : (m : Memory) (k : Refusal) → stepRefusal (unpacked b) (length m) ≡ Refused k
+      → ((stepCall b m) .state ≡ b) × ((stepCall b m) .memory ≡ m)
   unfolding stepCall stepLeft
   refused-step m k e = rw (← turns.refused-step (unpacked b) m k e) (packed-unpacked b l small, refl)
 
   -- a refused run leaves them too
-  pub refused-run : (n : ℕ) (m : Memory) (k : Refusal) → stepRefusal (unpacked b) (length m) ≡ Refused k → ((runCall n b m) .state ≡ b) × ((runCall n b m) .memory ≡ m)
+  pub refused-run : (n : ℕ) (m : Memory) (k : Refusal) → stepRefusal (unpacked b) (length m) ≡ Refused k
+      → ((runCall n b m) .state ≡ b) × ((runCall n b m) .memory ≡ m)
   unfolding runCall runLeft
   refused-run n m k e = rw (← turns.refused-run (unpacked b) m n k e) (packed-unpacked b l small, refl)
 
   -- a refused request leaves the state's bytes
-  pub refused-request : (level : ℕ) (k : Refusal) → requestRefusal (unpacked b) level ≡ Refused k → (requestCall b level) .state ≡ b
+  pub refused-request : (level : ℕ) (k : Refusal) → requestRefusal (unpacked b) level ≡ Refused k
+      → (requestCall b level) .state ≡ b
   unfolding requestCall repliedOf requestOf requestOutcome unlessRefused unchanged
   refused-request level k e = rw e (packed-unpacked b l small)

@@ -1,4 +1,5 @@
--- No call stops a desk with the number whose bytes say that it runs: every stop has a number of document 01, at most 16.
+-- No call stops a desk with the number whose bytes say that it runs: every stop has a number of
+-- document 01, at most 16.
 use Prim.Native.Nat.{ℕ, zero, suc, _+_, _≤_}
 use mathlib.Core.Path.{_≡_, refl, ap}
 use mathlib.Core.Bool.{Bool, true, false, _&&_}
@@ -21,12 +22,16 @@ use Rattle.machine.specs.declared.Refusal.the-variants as refusal
 use Rattle.machine.specs.declared.Answer.{Answer}
 use Rattle.machine.specs.declared.Answer.the-variants.{Accepted, Refused}
 use Rattle.machine.specs.Words.{pick, Memory, wordAt}
-use Rattle.machine.specs.State.{Registers, userMode, validUserStatus, systemBlockOf, controlBlockBytes, blockFits, mapFits, isRunning}
+use Rattle.machine.specs.State.{Registers, userMode, validUserStatus, systemBlockOf, controlBlockBytes, blockFits}
+use Rattle.machine.specs.State.{mapFits, isRunning}
 use Rattle.machine.specs.Alarms.{alarmNumber, OrAlarm, got, alarm}
 use Rattle.machine.specs.Map.{View, viewOf, realOf, RealWrites, located, commit}
 use Rattle.machine.specs.Commands.{Done, Completion, done, ofMode, KernelEffect, halts, resumes}
-use Rattle.machine.specs.Steps.{Outcome, Plan, continues, enters, stop, halt, completed, enterIf, concluded, userStep, resume, kernelWritten, ofKernelCommand, kernelStep, oneStep}
-use Rattle.machine.specs.Calls.{refusalNumber, freshDesk, freshReply, freshRefusal, freshOf, unchanged, unlessRefused, stepRefusal, stepOutcome, requestRefusal, requestOutcome, Ran, ran, stepsOf, runUnless, runOf}
+use Rattle.machine.specs.Steps.{Outcome, Plan, continues, enters, stop, halt, completed, enterIf, concluded, userStep}
+use Rattle.machine.specs.Steps.{resume, kernelWritten, ofKernelCommand, kernelStep, oneStep}
+use Rattle.machine.specs.Calls.{refusalNumber, freshDesk, freshReply, freshRefusal, freshOf, unchanged, unlessRefused}
+use Rattle.machine.specs.Calls.{stepRefusal, stepOutcome, requestRefusal, requestOutcome, Ran, ran, stepsOf}
+use Rattle.machine.specs.Calls.{runUnless, runOf}
 use Rattle.layout.specs.Layout.{runs, markNumber, markOf, unpacked}
 
 picked : {A : Type 0} (P : A → Type 0) (t : Bool) (a b : A) → P a → P b → P (pick t a b)
@@ -72,7 +77,8 @@ module _ (d : Desk) (represented : Representable (d .mark)) where
   unfolding resume stop
   resumed m a =
       let map : Map = record { base = record { 0 = wordAt m (a .0 + 72) }; length = wordAt m (a .0 + 76) } in
-      picked Leaves (blockFits a controlBlockBytes (length m) && mapFits map (length m) && validUserStatus (wordAt m (a .0 + 64)))
+      picked Leaves (blockFits a controlBlockBytes (length m) && mapFits map (length m) && validUserStatus
+      (wordAt m (a .0 + 64)))
       _ _ represented (stops 14 (omega arith))
 
   enters-if : (t : Bool) (i : ℕ) (r : Registers) (x p new s : ℕ) → Leaves (enterIf t d i r x p new s)
@@ -116,14 +122,18 @@ module _ (d : Desk) (represented : Representable (d .mark)) where
   unfolding requestOutcome
   request-represented level = unless (requestRefusal d level) _ represented
 
-steps-represented : (n k : ℕ) (d : Desk) (m : Memory) → Representable (d .mark) → Representable ((stepsOf n k d m) .reply .desk .mark)
+steps-represented : (n k : ℕ) (d : Desk) (m : Memory) → Representable (d .mark)
+    → Representable ((stepsOf n k d m) .reply .desk .mark)
 unfolding stepsOf
 steps-represented zero k d m represented = represented
 steps-represented (suc n) k d m represented =
-    picked (λ (r : Ran). Representable (r .reply .desk .mark)) (isRunning (d .mark)) _ (ran Accepted k d m) (steps-represented n (suc k) ((stepOutcome d m) .desk) (commit ((stepOutcome d m) .writes) m) (step-represented d represented m)) represented
+    picked (λ (r : Ran). Representable (r .reply .desk .mark)) (isRunning (d .mark)) _ (ran Accepted k d m)
+    (steps-represented n (suc k) ((stepOutcome d m) .desk) (commit ((stepOutcome d m) .writes) m)
+    (step-represented d represented m)) represented
 
 -- a run
-pub run-represented : (n : ℕ) (d : Desk) (m : Memory) → Representable (d .mark) → Representable ((runOf n d m) .reply .desk .mark)
+pub run-represented : (n : ℕ) (d : Desk) (m : Memory) → Representable (d .mark)
+    → Representable ((runOf n d m) .reply .desk .mark)
 unfolding runOf runUnless
 run-represented n d m represented = go (stepRefusal d (length m))
   where
@@ -132,7 +142,8 @@ run-represented n d m represented = go (stepRefusal d (length m))
     go (Refused k) = represented
 
 -- a fresh desk
-pub fresh-represented : (n : ℕ) (system control : RealAddress) (start : VirtualAddress) → Representable ((freshOf n system control start) .desk .mark)
+pub fresh-represented : (n : ℕ) (system control : RealAddress) (start : VirtualAddress)
+    → Representable ((freshOf n system control start) .desk .mark)
 unfolding freshOf freshReply
 fresh-represented n system control start = go (freshRefusal n system control)
   where

@@ -1,4 +1,5 @@
--- The four calls on numbers and bytes: unpack the state, make the call of `machine`, pack what it leaves.
+-- The four calls on numbers and bytes: unpack the state, make the call of `machine`, pack what it
+-- leaves.
 use Prim.Native.Nat.{ℕ, _+_, _*_}
 use mathlib.Core.List.{List}
 use Rattle.machine.specs.declared.StepAnswer.{StepAnswer}
@@ -8,7 +9,8 @@ use Rattle.machine.specs.Words.{Memory}
 use Rattle.machine.specs.Calls.{answerNumber, freshOf, stepAnswerNumber, Stepped, stepOf, requestOf, Ran, runOf}
 use Rattle.layout.specs.Layout.{packed, unpacked}
 
--- A call that leaves the memory alone: its answer is the number of its refusal, 0 where it was carried out
+-- A call that leaves the memory alone: its answer is the number of its refusal, 0 where it was
+-- carried out
 
 pub record Replied : Type 0 where
   pub answer : ℕ
@@ -19,7 +21,8 @@ repliedOf r = record { answer = answerNumber (r .answer); state = packed (r .des
 
 -- over a memory of n bytes
 unfoldable pub freshCall : ℕ → ℕ → ℕ → ℕ → Replied
-freshCall n system control start = repliedOf (freshOf n (record { 0 = system }) (record { 0 = control }) (record { 0 = start }))
+freshCall n system control start =
+    repliedOf (freshOf n (record { 0 = system }) (record { 0 = control }) (record { 0 = start }))
 
 unfoldable pub requestCall : List ℕ → ℕ → Replied
 requestCall state level = repliedOf (requestOf (unpacked state) level)
@@ -50,7 +53,8 @@ stepLeft r = record { answer = stepCode (r .reply .answer); state = packed (r .r
 unfoldable pub stepCall : List ℕ → Memory → StepLeft
 stepCall state m = stepLeft (stepOf (unpacked state) m)
 
--- A run answers with the number of its refusal, 0 where it was carried out, and beside it the steps that it made
+-- A run answers with the number of its refusal, 0 where it was carried out, and beside it the steps
+-- that it made
 
 pub record RunLeft : Type 0 where
   pub answer : ℕ
@@ -59,7 +63,14 @@ pub record RunLeft : Type 0 where
   pub memory : Memory
 
 unfoldable pub runLeft : Ran → RunLeft
-runLeft r = record { answer = answerNumber (r .reply .answer); steps = r .reply .steps; state = packed (r .reply .desk); memory = r .memory }
+runLeft r =
+    record {
+      answer = answerNumber (r .reply .answer);
+      steps = r .reply .steps;
+      state = packed
+          (r .reply .desk);
+      memory = r .memory;
+    }
 
 unfoldable pub runCall : ℕ → List ℕ → Memory → RunLeft
 runCall n state m = runLeft (runOf n (unpacked state) m)

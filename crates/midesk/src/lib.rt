@@ -1,4 +1,5 @@
-// The four calls for programs in C and Rust: the state as bytes, the memory as a lent slice. Any bytes are a state; every call answers.
+// The four calls for programs in C and Rust: the state as bytes, the memory as a lent slice. Any
+// bytes are a state; every call answers.
 ghost use mathlib.Core.Path.{_≡_};
 ghost use lib.ListN.{length};
 ghost use Rattle.midesk.specs.Exports.{freshCall, requestCall, runCall, stepCall, stepCode};
@@ -16,7 +17,8 @@ pub extern "C" fn midesk_fresh(
     start: u32,
     state: &mut [u8; STATE_BYTES],
 ) -> u32
-    ensures { λ r. ⌜ record { answer = r; state = now (state .exit) } ≡ freshCall (length (now (mem .entry))) system control start ⌝ }
+    ensures { λ r. ⌜ record { answer = r; state = now (state .exit) }
+        ≡ freshCall (length (now (mem .entry))) system control start ⌝ }
 {
     let r = desk::fresh(
         mem,
@@ -46,7 +48,8 @@ fn step_code(a: StepAnswer) -> u64
 // One step.
 #[no_mangle]
 pub extern "C" fn midesk_step(mem: &mut [u8], state: &mut [u8; STATE_BYTES]) -> u64
-    ensures { λ r. ⌜ record { answer = r; state = now (state .exit); memory = now (mem .exit) } ≡ stepCall (now (state .entry)) (now (mem .entry)) ⌝ }
+    ensures { λ r. ⌜ record { answer = r; state = now (state .exit); memory = now (mem .exit) }
+        ≡ stepCall (now (state .entry)) (now (mem .entry)) ⌝ }
 {
     let r = desk::step(layout::unpack(*state), mem);
     let d = r.desk;
@@ -63,7 +66,9 @@ pub extern "C" fn midesk_run(
     n: u64,
     steps: &mut u64,
 ) -> u32
-    ensures { λ r. ⌜ record { answer = r; steps = now (steps .exit); state = now (state .exit); memory = now (mem .exit) } ≡ runCall n (now (state .entry)) (now (mem .entry)) ⌝ }
+    ensures { λ r. ⌜ record
+        { answer = r; steps = now (steps .exit); state = now (state .exit); memory = now (mem .exit) }
+        ≡ runCall n (now (state .entry)) (now (mem .entry)) ⌝ }
 {
     let r = desk::run(layout::unpack(*state), mem, n);
     let d = r.desk;

@@ -14,6 +14,7 @@ module _ (v : View) (place L : ℕ) (a : VirtualAddress) (r : Registers) where
   unfolding takenBy valueIn
   reads-value = refl
 
-  pub reads-update : takenWith (readBytes v Read L a) (writtenBy Update a) ≡ takenFrom v place L Update (at (memory a) r)
+  pub reads-update : takenWith (readBytes v Read L a) (writtenBy Update a) ≡ takenFrom v place L Update
+      (at (memory a) r)
   unfolding takenBy valueIn targetIn
   reads-update = refl

@@ -10,7 +10,8 @@ use Rattle.machine.specs.Words.{span}
 use Rattle.machine.specs.State.{Registers, reg}
 use Rattle.machine.specs.Alarms.{OrAlarm, got, alarm, _>>=_}
 use Rattle.machine.specs.Map.{View}
-use Rattle.machine.specs.Operands.{Location, register, memory, Operand, at, Taken as Given, taken, takenBy, Operands as AllGiven}
+use Rattle.machine.specs.Operands.{Location, register, memory, Operand, at, Taken as Given, taken, takenBy}
+use Rattle.machine.specs.Operands.{Operands as AllGiven}
 use Rattle.forms.specs.Answers.{SmallTarget}
 use Rattle.operands.specs.declared.Taken.{Taken}
 use Rattle.operands.specs.declared.Taken.the-variants as takes
@@ -38,7 +39,8 @@ pub record TakesFrom (t : Taken) (place : ℕ) (k : Role) (l : Location) : Type 
 
 -- from register x, in which the value is n
 pub record TakesRegister (t : Taken) (place : ℕ) (k : Role) (x n : ℕ) : Type 0 where
-  pub same : (v : View) (L : ℕ) (r : Registers) → n ≡ reg r x % span L → takenAs t ≡ takenFrom v place L k (at (register x) r)
+  pub same : (v : View) (L : ℕ) (r : Registers) → n ≡ reg r x % span L
+      → takenAs t ≡ takenFrom v place L k (at (register x) r)
 
 -- where a result for an operand in memory goes
 abbrev pub writtenBy : Role → VirtualAddress → Target

@@ -8,7 +8,8 @@ ghost use Rattle.lookup.specs.Answers.{Fits};
 ghost use Rattle.machine.specs.Map.{readBytes, viewBy};
 ghost use Rattle.machine.specs.Operands.{immediate, operandAt, operandsOf};
 ghost use Rattle.machine.specs.Words.{lengthOf, pick};
-ghost use Rattle.operands.specs.Answers.{SmallOperands, SmallTaken, TakesFrom, TakesMemory, TakesRegister, operandsAs, takenAs, takenFrom, takenWith, writtenBy};
+ghost use Rattle.operands.specs.Answers.{SmallOperands, SmallTaken, TakesFrom, TakesMemory, TakesRegister};
+ghost use Rattle.operands.specs.Answers.{operandsAs, takenAs, takenFrom, takenWith, writtenBy};
 ghost use Rattle.reads.specs.Answers.{gotAs};
 ghost use Rattle.rules.specs.Rules.{rulesIn};
 use fetches::OperandBytes;
@@ -29,14 +30,15 @@ pub enum Taken {
     Alarm(u32, Alarm),
 }
 
-// What all operands give: the first's and the second's number, and where the last one's result goes; or an alarm's argument and
-// the alarm.
+// What all operands give: the first's and the second's number, and where the last one's result
+// goes; or an alarm's argument and the alarm.
 pub enum Operands {
     Ready(u32, u32, Target),
     Alarm(u32, Alarm),
 }
 
-// The operand whose six bytes begin at R15, of the command whose byte was fetched from start and lies at found.
+// The operand whose six bytes begin at R15, of the command whose byte was fetched from start and
+// lies at found.
 fn operand(
     mem: &[u8],
     regs: &mut [u32; 16],
@@ -48,7 +50,8 @@ fn operand(
     place: u32,
 ) -> Location
     requires { ⌜ Fits map (now mem) × FetchedFrom (viewBy status map (now mem)) (now mem) start found ⌝ }
-    ensures spot { λ r. ⌜ locationAs r (now (regs .exit)) ≡ operandAt (viewBy status map (now (mem .entry))) place (lengthOf size) (now (regs .entry)) ⌝ }
+    ensures spot { λ r. ⌜ locationAs r (now (regs .exit))
+        ≡ operandAt (viewBy status map (now (mem .entry))) place (lengthOf size) (now (regs .entry)) ⌝ }
     ensures small { λ r. ⌜ SmallLocation r ⌝ }
 {
     let pc = regs[15];
@@ -146,7 +149,8 @@ fn written(role: Role, a: VirtualAddress) -> Target
     }
 }
 
-// From memory. The only call of `read` is here, so that it becomes part of the loop over the operands.
+// From memory. The only call of `read` is here, so that it becomes part of the loop over the
+// operands.
 fn take_memory(
     mem: &[u8],
     status: u32,
@@ -182,7 +186,8 @@ fn take(
     spot: Location,
 ) -> Taken
     requires { ⌜ Fits map (now mem) × SmallLocation spot ⌝ }
-    ensures value { λ r. ⌜ takenAs r ≡ takenFrom (viewBy status map (now (mem .entry))) place (lengthOf size) role (locationAs spot (now (regs .entry))) ⌝ }
+    ensures value { λ r. ⌜ takenAs r
+        ≡ takenFrom (viewBy status map (now (mem .entry))) place (lengthOf size) role (locationAs spot (now (regs .entry))) ⌝ }
     ensures small { λ r. ⌜ SmallTaken r ⌝ }
 {
     match spot {
@@ -206,7 +211,8 @@ fn chosen(place: u32, own: u32, new: u32, old: u32) -> u32
     if place == own { new } else { old }
 }
 
-// The operands that follow the command byte, from R15 on; the byte was fetched from start and lies at found.
+// The operands that follow the command byte, from R15 on; the byte was fetched from start and lies
+// at found.
 pub fn take_all(
     mem: &[u8],
     regs: &mut [u32; 16],
@@ -216,8 +222,10 @@ pub fn take_all(
     found: RealAddress,
     rules: u32,
 ) -> Operands
-    requires { ⌜ Fits map (now mem) × FetchedFrom (viewBy status map (now mem)) (now mem) start found × (rules < 65536) ⌝ }
-    ensures value { λ r. ⌜ operandsAs r (now (regs .exit)) ≡ operandsOf (viewBy status map (now (mem .entry))) (rulesIn rules) (now (regs .entry)) ⌝ }
+    requires { ⌜ Fits map (now mem) × FetchedFrom (viewBy status map (now mem)) (now mem) start found
+        × (rules < 65536) ⌝ }
+    ensures value { λ r. ⌜ operandsAs r (now (regs .exit))
+        ≡ operandsOf (viewBy status map (now (mem .entry))) (rulesIn rules) (now (regs .entry)) ⌝ }
     ensures small { λ r. ⌜ SmallOperands r ⌝ }
 {
     let mut first: u32 = 0;

@@ -1,4 +1,5 @@
--- The premises of demand 3 can be met, and each is needed: desks and memories of 2,048 bytes that show it.
+-- The premises of demand 3 can be met, and each is needed: desks and memories of 2,048 bytes that
+-- show it.
 use Prim.Native.Nat.{ℕ, zero, suc, _-_, _/_, _<_, _≤_}
 use mathlib.Core.Path.{_≡_, refl, sym, ap}
 use mathlib.Core.Logic.{_≢_}
@@ -17,7 +18,8 @@ use Rattle.machine.specs.Words.{Memory, byteAt}
 use Rattle.machine.specs.State.{reg, userMode, frameAround, savedBytes}
 use Rattle.machine.specs.Map.{mapEntry, present, frameOf, undamaged, Reached}
 use Rattle.machine.specs.Calls.{passes6, requestRefusal, requestOutcome}
-use Rattle.machine.specs.Isolation.{step, Premise, inUserMode, oneLength, sameMap, sameSystemBlock, sameReachedFrames, mapNotWritable, Holds}
+use Rattle.machine.specs.Isolation.{step, Premise, inUserMode, oneLength, sameMap, sameSystemBlock, sameReachedFrames}
+use Rattle.machine.specs.Isolation.{mapNotWritable, Holds}
 use Rattle.premises.specs.Premises.{Met, Needed, EachNeeded}
 use Rattle.machine.proofs.WholeStep.{wholeStep}
 
@@ -57,7 +59,8 @@ block (suc k) = 0 ∷ 0 ∷ 0 ∷ 0 ∷ 0x80 ∷ 0 ∷ 0 ∷ 0 ∷ block k
 filled : List ℕ → List ℕ
 filled bs = bs ++ replicate (512 - length bs) 0
 
--- four frames: system block, map, code, zeros. Pages 0 to 3 have the map entries 0, 1 with the highest byte top1, C0000002h, and frame3 with the highest byte top3
+-- four frames: system block, map, code, zeros. Pages 0 to 3 have the map entries 0, 1 with the
+-- highest byte top1, C0000002h, and frame3 with the highest byte top3
 memoryOf : ℕ → ℕ → ℕ → Memory
 memoryOf top1 top3 frame3 =
     filled (block 32)
@@ -124,8 +127,10 @@ module _ (s r15 : ℕ) (m : Memory) (b v : ℕ) where
       let f : true ≡ false = rw (le-leb 512 b (omega arith), lt-ltb b 528 (omega arith)) at (map h) in
       let z : _≡_ {A = ℕ} 0 1 = cc in
       omega arith
-  held-where P user map block frames free sameSystemBlock h = λ a r. agrees a λ q. let high : a < 256 = r .high in omega (arith, ltb-false b 256 (block h))
-  held-where P user map block frames free sameReachedFrames h = λ a r. agrees a λ q. unreached m a (b / 512) (rw q) (frames h) r
+  held-where P user map block frames free sameSystemBlock h =
+      λ a r. agrees a λ q. let high : a < 256 = r .high in omega (arith, ltb-false b 256 (block h))
+  held-where P user map block frames free sameReachedFrames h =
+      λ a r. agrees a λ q. unreached m a (b / 512) (rw q) (frames h) r
   held-where P user map block frames free mapNotWritable h = map-not-writable s r15 m (set m b v) (free h)
 
 -- ---- Desks that differ, and computing
@@ -152,7 +157,9 @@ premises-met = record {
   memory = memoryOf 0 0 3;
   other = set (memoryOf 0 0 3) 1536 1;
   differ = λ e. eqb-false 0 1 refl (ap (λ (x : Memory). byteAt x 1536) e);
-  premises = λ p. held-where 0 1050 (memoryOf 0 0 3) 1536 1 (λ q. Unit {0}) (λ n. refl) (λ n. refl) (λ n. refl) (λ n. refl) (λ n. refl) p tt;
+  premises =
+      λ p. held-where 0 1050 (memoryOf 0 0 3) 1536 1 (λ q. Unit {0}) (λ n. refl) (λ n. refl) (λ n. refl) (λ n. refl)
+      (λ n. refl) p tt;
   usable = record { held = refl; accepted = (refl, (refl, (refl, (refl, tt)))) };
   usable′ = record { held = refl; accepted = (refl, (refl, (refl, (refl, tt)))) };
   writes = λ e. eqb-false 7 0 refl (ap (λ (x : Memory). byteAt x 1283) e);
@@ -169,7 +176,9 @@ user-mode-needed = record {
   desk = deskAt 0x8000_0000 1037;
   memory = memoryOf 0 0 3;
   other = set (memoryOf 0 0 3) 1536 1;
-  others = held-where 0x8000_0000 1037 (memoryOf 0 0 3) 1536 1 (λ q. q ≢ inUserMode) (λ n. absurd (n refl)) (λ n. refl) (λ n. refl) (λ n. refl) (λ n. refl);
+  others =
+      held-where 0x8000_0000 1037 (memoryOf 0 0 3) 1536 1 (λ q. q ≢ inUserMode) (λ n. absurd (n refl)) (λ n. refl)
+      (λ n. refl) (λ n. refl) (λ n. refl);
   calls = step ∷ [];
   usable = record { held = refl; accepted = (refl, tt) };
   usable′ = record { held = refl; accepted = (refl, tt) };
@@ -187,7 +196,8 @@ lengthened [] k a = zeros k a
 lengthened (b ∷ m) k zero = refl
 lengthened (b ∷ m) k (suc a) = lengthened m k a
 
-held-but-length : (m : Memory) (k : ℕ) → reaches m 1 4 ≡ false → (q : Premise) → q ≢ oneLength → Holds q (deskAt 0 1037) m (m ++ replicate k 0)
+held-but-length : (m : Memory) (k : ℕ) → reaches m 1 4 ≡ false → (q : Premise) → q ≢ oneLength
+    → Holds q (deskAt 0 1037) m (m ++ replicate k 0)
 unfolding deskAt
 held-but-length m k h inUserMode n = refl
 held-but-length m k h oneLength n = absurd (n refl)
@@ -217,21 +227,26 @@ same-map-needed = record {
   desk = deskAt 0 1037;
   memory = memoryOf 0 0x80 3;
   other = set (memoryOf 0 0x80 3) 524 0;
-  others = held-where 0 1037 (memoryOf 0 0x80 3) 524 0 (λ q. q ≢ sameMap) (λ n. refl) (λ n. absurd (n refl)) (λ n. refl) (λ n. refl) (λ n. refl);
+  others =
+      held-where 0 1037 (memoryOf 0 0x80 3) 524 0 (λ q. q ≢ sameMap) (λ n. refl) (λ n. absurd (n refl)) (λ n. refl)
+      (λ n. refl) (λ n. refl);
   calls = step ∷ [];
   usable = record { held = refl; accepted = (refl, tt) };
   usable′ = record { held = refl; accepted = (refl, tt) };
   broken = λ h. differ-by (λ d. d .status) refl (h .calls .0 .desks);
 }
 
--- page 3 is absent: alarm 9 takes R15 from entry 9 of the system block, 1 in one memory and 0 in the other
+-- page 3 is absent: alarm 9 takes R15 from entry 9 of the system block, 1 in one memory and 0 in
+-- the other
 same-system-block-needed : Needed sameSystemBlock
 unfolding computing
 same-system-block-needed = record {
   desk = deskAt 0 1037;
   memory = memoryOf 0 0 3;
   other = set (memoryOf 0 0 3) 75 1;
-  others = held-where 0 1037 (memoryOf 0 0 3) 75 1 (λ q. q ≢ sameSystemBlock) (λ n. refl) (λ n. refl) (λ n. absurd (n refl)) (λ n. refl) (λ n. refl);
+  others =
+      held-where 0 1037 (memoryOf 0 0 3) 75 1 (λ q. q ≢ sameSystemBlock) (λ n. refl) (λ n. refl)
+      (λ n. absurd (n refl)) (λ n. refl) (λ n. refl);
   calls = step ∷ [];
   usable = record { held = refl; accepted = (refl, tt) };
   usable′ = record { held = refl; accepted = (refl, tt) };
@@ -245,21 +260,26 @@ same-reached-frames-needed = record {
   desk = deskAt 0 1037;
   memory = memoryOf 0 0x80 3;
   other = set (memoryOf 0 0x80 3) 1536 1;
-  others = held-where 0 1037 (memoryOf 0 0x80 3) 1536 1 (λ q. q ≢ sameReachedFrames) (λ n. refl) (λ n. refl) (λ n. refl) (λ n. absurd (n refl)) (λ n. refl);
+  others =
+      held-where 0 1037 (memoryOf 0 0x80 3) 1536 1 (λ q. q ≢ sameReachedFrames) (λ n. refl) (λ n. refl) (λ n. refl)
+      (λ n. absurd (n refl)) (λ n. refl);
   calls = step ∷ [];
   usable = record { held = refl; accepted = (refl, tt) };
   usable′ = record { held = refl; accepted = (refl, tt) };
   broken = λ h. differ-by (register 0) refl (h .calls .0 .desks);
 }
 
--- page 1 names frame 1, writable, where the map lies: MOVE B I 80h,524 makes page 3 name frame 3, and MOVE B 1536,R0 reads a byte of it that differs
+-- page 1 names frame 1, writable, where the map lies: MOVE B I 80h,524 makes page 3 name frame 3,
+-- and MOVE B 1536,R0 reads a byte of it that differs
 map-not-writable-needed : Needed mapNotWritable
 unfolding computing
 map-not-writable-needed = record {
   desk = deskAt 0 1024;
   memory = memoryOf 0xC0 0 3;
   other = set (memoryOf 0xC0 0 3) 1536 1;
-  others = held-where 0 1024 (memoryOf 0xC0 0 3) 1536 1 (λ q. q ≢ mapNotWritable) (λ n. refl) (λ n. refl) (λ n. refl) (λ n. refl) (λ n. absurd (n refl));
+  others =
+      held-where 0 1024 (memoryOf 0xC0 0 3) 1536 1 (λ q. q ≢ mapNotWritable) (λ n. refl) (λ n. refl) (λ n. refl)
+      (λ n. refl) (λ n. absurd (n refl));
   calls = step ∷ step ∷ [];
   usable = record { held = refl; accepted = (refl, (refl, tt)) };
   usable′ = record { held = refl; accepted = (refl, (refl, tt)) };

@@ -1,4 +1,5 @@
--- The premises of demand 3: two memories that differ can meet them all, and none of them can be left out. Statements only.
+-- The premises of demand 3: two memories that differ can meet them all, and none of them can be
+-- left out. Statements only.
 use Prim.Native.Nat.{ℕ}
 use mathlib.Core.Path.{_≡_}
 use mathlib.Core.Logic.{_≢_}
@@ -12,7 +13,8 @@ use Rattle.machine.specs.declared.Answer.the-variants.{Accepted}
 use Rattle.machine.specs.Words.{Memory}
 use Rattle.machine.specs.State.{isRunning}
 use Rattle.machine.specs.Steps.{entered}
-use Rattle.machine.specs.Isolation.{Call, step, request, refusalOf, nextDesk, nextMemory, Premise, Holds, endOf, Isolated}
+use Rattle.machine.specs.Isolation.{Call, step, request, refusalOf, nextDesk, nextMemory, Premise, Holds, endOf}
+use Rattle.machine.specs.Isolation.{Isolated}
 
 -- ---- Desks and memories that the code can meet, and calls that it carries out
 
@@ -20,11 +22,13 @@ abbrev pub allBelow : ℕ → List ℕ → Bool
 allBelow k [] = true
 allBelow k (x ∷ xs) = ltb x k && allBelow k xs
 
--- the code's types can hold them: sixteen registers, words of 32 bits, a pending set of 16 bits, bytes; and the desk is running
+-- the code's types can hold them: sixteen registers, words of 32 bits, a pending set of 16 bits,
+-- bytes; and the desk is running
 abbrev pub holdable : Desk → Memory → Bool
 holdable d m =
     eqb (length (d .registers)) 16
-    && allBelow 0x1_0000_0000 (d .status ∷ d .map .base .0 ∷ d .map .length ∷ d .system .0 ∷ d .control .0 ∷ d .registers)
+    && allBelow 0x1_0000_0000
+    (d .status ∷ d .map .base .0 ∷ d .map .length ∷ d .system .0 ∷ d .control .0 ∷ d .registers)
     && ltb (d .pending) 0x1_0000
     && isRunning (d .mark)
     && allBelow 0x100 m

@@ -1,4 +1,5 @@
-// MULT and DIV, by sign and magnitude. a is the first operand's value, b the second's; of each the last L bytes count.
+// MULT and DIV, by sign and magnitude. a is the first operand's value, b the second's; of each the
+// last L bytes count.
 ghost use mathlib.Core.Path.{_≡_};
 ghost use Prim.Native.Nat.{_-_, _%_, _≤_, _<_};
 ghost use lib.Dec.{leb, ltb};

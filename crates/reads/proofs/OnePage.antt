@@ -13,8 +13,10 @@ use Rattle.machine.specs.Map.{viewBy, readFrom, readBytes}
 use Rattle.machine.proofs.Pages.{Finds, found-page}
 use Rattle.words.specs.Values.{valueAt}
 
-module _ {s : ℕ} {map : Map} {m : Memory} {x : VirtualAddress} {w : Access} {a : RealAddress} (f : Finds s map m x w a) where
-  pub read-from : (L k acc : ℕ) → x .0 % 512 + k + L ≤ 512 → readFrom (viewBy s map m) w L (x .0 + k) acc ≡ got (valueAt m L (a .0 + k) acc)
+module _ {s : ℕ} {map : Map} {m : Memory} {x : VirtualAddress} {w : Access} {a : RealAddress}
+    (f : Finds s map m x w a) where
+  pub read-from : (L k acc : ℕ) → x .0 % 512 + k + L ≤ 512
+      → readFrom (viewBy s map m) w L (x .0 + k) acc ≡ got (valueAt m L (a .0 + k) acc)
   unfolding readFrom valueAt
   read-from zero k acc l = refl
   read-from (suc L) k acc l =

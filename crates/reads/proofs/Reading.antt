@@ -37,7 +37,8 @@ module _ (v : View) (w : Access) (a n : ℕ) where
         let p : a + i + 1 ≡ a + (i + 1) = omega arith in
         rw (one-left, ← here, h, e, p)
 
-    pub read-stops : (k : Alarm) (z : ℕ) → v (record { 0 = x }) w ≡ alarm k z → readFrom v w (n - i) (a + i) acc ≡ alarm k z
+    pub read-stops : (k : Alarm) (z : ℕ) → v (record { 0 = x }) w ≡ alarm k z
+        → readFrom v w (n - i) (a + i) acc ≡ alarm k z
     unfolding readFrom
     read-stops k z h = rw (one-left, ← here, h)
 
@@ -50,10 +51,12 @@ module _ (v : View) (w : Access) (a n : ℕ) where
 read-same : (v : View) (w : Access) (L a b acc : ℕ) → wrap a ≡ wrap b → readFrom v w L a acc ≡ readFrom v w L b acc
 unfolding readFrom
 read-same v w zero a b acc e = refl
-read-same v w (suc L) a b acc e = rw e (go (λ n. read-same v w L (a + 1) (b + 1) n (omega arith)) (v (record { 0 = wrap b }) w))
+read-same v w (suc L) a b acc e =
+    rw e (go (λ n. read-same v w L (a + 1) (b + 1) n (omega arith)) (v (record { 0 = wrap b }) w))
   where
     go : ((n : ℕ) → readFrom v w L (a + 1) n ≡ readFrom v w L (b + 1) n) → (t : OrAlarm Found)
-        → (t >>= (λ f. readFrom v w L (a + 1) (acc * 256 + f .byte))) ≡ (t >>= (λ f. readFrom v w L (b + 1) (acc * 256 + f .byte)))
+        → (t >>= (λ f. readFrom v w L (a + 1) (acc * 256 + f .byte)))
+        ≡ (t >>= (λ f. readFrom v w L (b + 1) (acc * 256 + f .byte)))
     go h (got f) = h (acc * 256 + f .byte)
     go h (alarm n x) = refl
 

@@ -1,4 +1,5 @@
-// Values of B, H and W through the map. Where the bytes of a value lie in one page, one lookup answers for all of them; the bytewise way stands beside it.
+// Values of B, H and W through the map. Where the bytes of a value lie in one page, one lookup
+// answers for all of them; the bytewise way stands beside it.
 ghost use mathlib.Core.Path.{_≡_};
 ghost use Prim.Native.Nat.{_≤_};
 ghost use Rattle.lookup.specs.Answers.{Fits};

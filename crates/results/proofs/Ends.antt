@@ -17,7 +17,8 @@ unfolding withFlags
 same-status s = omega arith
 
 module _ (s : ℕ) (m : Memory) where
-  written : (d : Done) (t : OrAlarm RealWrites) → afterStore (storeEndOf m t) (d .registers) (withFlags s (d .flags)) ≡ writtenEnd s m d t
+  written : (d : Done) (t : OrAlarm RealWrites)
+      → afterStore (storeEndOf m t) (d .registers) (withFlags s (d .flags)) ≡ writtenEnd s m d t
   written d (got ws) = refl
   written d (alarm n x) = refl
 

@@ -1,14 +1,14 @@
-// How a command ends, and the way of a result to its target. The working registers are lent; where the command alarms they are of no account.
+// How a command ends, and the way of a result to its target. The working registers are lent; where
+// the command alarms they are of no account.
 ghost use mathlib.Core.Path.{_≡_};
 ghost use Rattle.forms.specs.Answers.{SmallTarget};
 ghost use Rattle.lookup.specs.Answers.{Fits};
 ghost use Rattle.machine.specs.Alarms.{got};
 ghost use Rattle.machine.specs.Commands.{keptRest, stored};
-ghost use Rattle.machine.specs.Map.{located, viewBy, writesFrom};
 ghost use Rattle.machine.specs.State.{withFlags};
 ghost use Rattle.machine.specs.Words.{bytesOf, lengthOf};
-ghost use Rattle.results.specs.Ends.{AfterStore, doneEnd, outAs};
-ghost use Rattle.stores.specs.Answers.{storeEndOf, storedAs};
+ghost use Rattle.results.specs.Ends.{AfterStore, endIn, outAs};
+ghost use Rattle.stores.specs.Answers.{storedAs, storedIn};
 use machine::Alarm;
 use machine::Map;
 use machine::Result;
@@ -17,7 +17,8 @@ use machine::Target;
 use machine::VirtualAddress;
 use stores::Stored;
 
-// How a command ended: with a new status; a system call with its argument; stopped; a control block's address to resume from; an alarm's argument and the alarm.
+// How a command ended: with a new status; a system call with its argument; stopped; a control
+// block's address to resume from; an alarm's argument and the alarm.
 pub enum Out {
     Done(u32),
     System(u32),
@@ -56,7 +57,8 @@ pub fn ended(done: Stored, status: u32) -> Out
 // A value of a size to an address. Words are stored in place, since they are most frequent.
 fn store(mem: &mut [u8], status: u32, map: Map, a: VirtualAddress, size: Size, value: u32) -> Stored
     requires { ⌜ Fits map (now mem) ⌝ }
-    ensures { λ r. ⌜ storedAs r (now (mem .exit)) ≡ storeEndOf (now (mem .entry)) (located (viewBy status map (now (mem .entry))) (writesFrom (a .0) (bytesOf (lengthOf size) value))) ⌝ }
+    ensures { λ r. ⌜ storedAs r (now (mem .exit))
+        ≡ storedIn status map (now (mem .entry)) a (bytesOf (lengthOf size) value) ⌝ }
 {
     match size {
         Size::W => stores::store_word(mem, status, map, a, value),
@@ -75,7 +77,8 @@ pub fn put(
     target: Target,
 ) -> Out
     requires { ⌜ Fits map (now mem) × SmallTarget target ⌝ }
-    ensures { λ r. ⌜ outAs r (now (regs .exit)) (now (mem .exit)) ≡ doneEnd status (now (mem .entry)) (viewBy status map (now (mem .entry))) (got (stored (lengthOf size) x target (now (regs .entry)))) ⌝ }
+    ensures { λ r. ⌜ outAs r (now (regs .exit)) (now (mem .exit))
+        ≡ endIn status map (now (mem .entry)) (λ v. got (stored (lengthOf size) x target (now (regs .entry)))) ⌝ }
 {
     let s = with_flags(status, x.flags);
     match target {

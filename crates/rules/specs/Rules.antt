@@ -1,5 +1,6 @@
--- The operand rules of a command byte, written as one number: how such a number reads, and the number of a list of rules;
--- the table of these numbers, byte by byte; and the mode that a byte needs.
+-- The operand rules of a command byte, written as one number: how such a number reads, and the
+-- number of a list of rules; the table of these numbers, byte by byte; and the mode that a byte
+-- needs.
 use Prim.Native.Nat.{ℕ, zero, suc, _+_, _*_, _/_, _%_}
 use mathlib.Core.Bool.{Bool, _||_}
 use mathlib.Core.List.{List, [], _∷_}
@@ -16,8 +17,8 @@ use Rattle.machine.specs.Code.{Rule, Known, known}
 
 -- ---- How a number reads
 
--- The highest of four hexadecimal digits is the operand count. The digits below are the operands', the first operand's
--- lowest: the size in a digit's low two bits, the role in its high two.
+-- The highest of four hexadecimal digits is the operand count. The digits below are the operands',
+-- the first operand's lowest: the size in a digit's low two bits, the role in its high two.
 
 -- the operand count
 abbrev pub countIn : ℕ → ℕ
@@ -27,7 +28,8 @@ countIn n = n / 0x1000
 abbrev pub sizeIn : ℕ → Size
 sizeIn n = pick (eqb (n % 4) 1) B (pick (eqb (n % 4) 2) H W)
 
--- the role in the lowest digit: 0 for a value, 1 for an address, 2 for a destination, 3 for an update
+-- the role in the lowest digit: 0 for a value, 1 for an address, 2 for a destination, 3 for an
+-- update
 abbrev pub roleIn : ℕ → Role
 roleIn n =
     pick (eqb (n / 4 % 4) 0) Value (pick (eqb (n / 4 % 4) 1) Address (pick (eqb (n / 4 % 4) 2) Destination Update))

@@ -1,4 +1,5 @@
-// The constant table: operand count, sizes and roles of each command byte; and the mode that a byte needs.
+// The constant table: operand count, sizes and roles of each command byte; and the mode that a byte
+// needs.
 ghost use mathlib.Core.Path.{_≡_};
 ghost use Prim.Native.Nat.{_<_};
 ghost use Rattle.machine.specs.Code.{known};
@@ -6,9 +7,9 @@ ghost use Rattle.rules.specs.Rules.{countIn, forbiddenOf, knownRules, ro
 use machine::Role;
 use machine::Size;
 
-// Four hexadecimal digits a row: the operand count, then a digit for the third, the second and the first operand. A
-// digit is 1 for B, 2 for H, 3 for W, and 0 for a value, 4 for an address, 8 for a destination, 12 for an update. An
-// unknown byte has no operands, and from 0x7B on all are unknown.
+// Four hexadecimal digits a row: the operand count, then a digit for the third, the second and the
+// first operand. A digit is 1 for B, 2 for H, 3 for W, and 0 for a value, 4 for an address, 8 for a
+// destination, 12 for an update. An unknown byte has no operands, and from 0x7B on all are unknown.
 const RULES: [u16; 123] = [
     0x0000, // 0x00: HALT, PUSHR, POPR, system call
     0x0000,

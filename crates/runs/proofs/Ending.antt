@@ -7,11 +7,15 @@ use lib.ListN.{length}
 use Rattle.machine.specs.declared.Map.{Map}
 use Rattle.machine.specs.declared.Desk.{Desk}
 use Rattle.machine.specs.Words.{pick, Memory, wordAt}
-use Rattle.machine.specs.State.{Registers, userMode, levelOf, flagsOf, withoutLevel, systemBlockOf, validUserStatus, blockFits, mapFits}
+use Rattle.machine.specs.State.{Registers, userMode, levelOf, flagsOf, withoutLevel, systemBlockOf, validUserStatus}
+use Rattle.machine.specs.State.{blockFits, mapFits}
 use Rattle.machine.specs.Alarms.{OrAlarm, got, alarm}
 use Rattle.machine.specs.Map.{View, viewOf, viewBy, RealWrites, located, commit}
-use Rattle.machine.specs.Commands.{Done, Completion, done, ofMode, SystemCall, userCommand, KernelEffect, halts, resumes, kernelCommand}
-use Rattle.machine.specs.Steps.{Outcome, stop, resume, Plan, enters, completed, due, userWritten, ofUserCommand, interrupted, userPlan, concluded, userStep, kernelWritten, ofKernelCommand, kernelStep, oneStep}
+use Rattle.machine.specs.Commands.{Done, Completion, done, ofMode, SystemCall, userCommand, KernelEffect, halts}
+use Rattle.machine.specs.Commands.{resumes, kernelCommand}
+use Rattle.machine.specs.Steps.{Outcome, stop, resume, Plan, enters, completed, due, userWritten, ofUserCommand}
+use Rattle.machine.specs.Steps.{interrupted, userPlan, concluded, userStep, kernelWritten, ofKernelCommand}
+use Rattle.machine.specs.Steps.{kernelStep, oneStep}
 use Rattle.machine.specs.Calls.{Stepped}
 use Rattle.results.specs.declared.Out.{Out}
 use Rattle.results.specs.declared.Out.the-variants as out
@@ -24,24 +28,28 @@ use Rattle.levels.specs.Due.{interruptOf}
 
 module _ (d : Desk) (m : Memory) where
   written-end : userMode (d .status) ≡ true → (c : Done) (t : OrAlarm RealWrites)
-      → enteredBy d m (userWritten (d .registers) (d .status) (d .pending) c t) ≡ concludedEnd d m (writtenEnd (d .status) m c t)
+      → enteredBy d m (userWritten (d .registers) (d .status) (d .pending) c t) ≡ concludedEnd d m
+      (writtenEnd (d .status) m c t)
   unfolding userWritten concluded completed concludedEnd
   written-end u c (got ws) = refl
   written-end u c (alarm n x) = rw u
 
   user-end : userMode (d .status) ≡ true → (v : View) (t : OrAlarm (Completion SystemCall))
-      → enteredBy d m (ofUserCommand (d .registers) (d .status) (d .pending) v t) ≡ concludedEnd d m (userEnd (d .status) m v t)
+      → enteredBy d m (ofUserCommand (d .registers) (d .status) (d .pending) v t) ≡ concludedEnd d m
+      (userEnd (d .status) m v t)
   unfolding ofUserCommand concludedEnd
   user-end u v (got (done c)) = written-end u c (located v (c .writes))
   user-end u v (got (ofMode c)) = refl
   user-end u v (alarm n x) = rw u
 
-  kernel-written-end : userMode (d .status) ≡ false → (c : Done) (t : OrAlarm RealWrites) → shown (kernelWritten d c t) m ≡ concludedEnd d m (writtenEnd (d .status) m c t)
+  kernel-written-end : userMode (d .status) ≡ false → (c : Done) (t : OrAlarm RealWrites)
+      → shown (kernelWritten d c t) m ≡ concludedEnd d m (writtenEnd (d .status) m c t)
   unfolding kernelWritten completed concludedEnd
   kernel-written-end u c (got ws) = refl
   kernel-written-end u c (alarm n x) = rw u
 
-  kernel-end : userMode (d .status) ≡ false → (v : View) (t : OrAlarm (Completion KernelEffect)) → shown (ofKernelCommand d m v t) m ≡ concludedEnd d m (kernelEnd (d .status) m v t)
+  kernel-end : userMode (d .status) ≡ false → (v : View) (t : OrAlarm (Completion KernelEffect))
+      → shown (ofKernelCommand d m v t) m ≡ concludedEnd d m (kernelEnd (d .status) m v t)
   unfolding ofKernelCommand concludedEnd
   kernel-end u v (got (done c)) = kernel-written-end u c (located v (c .writes))
   kernel-end u v (got (ofMode (halts r))) = refl
@@ -49,7 +57,8 @@ module _ (d : Desk) (m : Memory) where
   kernel-end u v (alarm n x) = rw u
 
   -- no interrupt is due
-  step-ends : interruptOf (d .status) (d .pending) ≡ 0 → shown (oneStep d m) m ≡ concludedEnd d m (execOf (d .status) (d .map) (d .registers) m)
+  step-ends : interruptOf (d .status) (d .pending) ≡ 0
+      → shown (oneStep d m) m ≡ concludedEnd d m (execOf (d .status) (d .map) (d .registers) m)
   unfolding interruptOf oneStep userStep userPlan interrupted kernelStep execOf
   step-ends e = go (userMode (d .status)) refl e
     where
@@ -58,19 +67,22 @@ module _ (d : Desk) (m : Memory) where
 
       go : (b : Bool) → userMode (d .status) ≡ b → pick b (due 15 (d .pending) (levelOf (d .status))) 0 ≡ 0
           → shown (pick b (userStep d v (systemBlockOf d m)) (kernelStep d v m)) m
-          ≡ concludedEnd d m (pick b (userEnd (d .status) m v (userCommand v (d .registers) (flagsOf (d .status)))) (kernelEnd (d .status) m v (kernelCommand v (d .registers) (flagsOf (d .status)))))
+          ≡ concludedEnd d m (pick b (userEnd (d .status) m v (userCommand v (d .registers) (flagsOf (d .status))))
+          (kernelEnd (d .status) m v (kernelCommand v (d .registers) (flagsOf (d .status)))))
       go true u z = rw z (user-end u v (userCommand v (d .registers) (flagsOf (d .status))))
       go false u z = kernel-end u v (kernelCommand v (d .registers) (flagsOf (d .status)))
 
   -- ---- An interrupt is due
 
-  entered : (k : ℕ) (r : Registers) (p : ℕ) (c : Plan) → 0 < k → interrupted k r p c ≡ enters (16 + k) r k (withoutLevel p k)
+  entered : (k : ℕ) (r : Registers) (p : ℕ) (c : Plan) → 0 < k
+      → interrupted k r p c ≡ enters (16 + k) r k (withoutLevel p k)
   unfolding interrupted
   entered zero r p c h = absurd (omega arith)
   entered (suc k) r p c h = refl
 
   pub step-enters : (k : ℕ) → k ≡ interruptOf (d .status) (d .pending) → 0 < k
-      → (s : Stepped) → s ≡ enteredBy d m (enters (16 + k) (d .registers) k (withoutLevel (d .pending) k)) → s ≡ shown (oneStep d m) m
+      → (s : Stepped) → s ≡ enteredBy d m (enters (16 + k) (d .registers) k (withoutLevel (d .pending) k))
+      → s ≡ shown (oneStep d m) m
   unfolding interruptOf oneStep userStep userPlan
   step-enters k e h s g = g ∙ sym (go (userMode (d .status)) e)
     where
@@ -78,7 +90,8 @@ module _ (d : Desk) (m : Memory) where
       v = viewOf d m
 
       go : (b : Bool) → k ≡ pick b (due 15 (d .pending) (levelOf (d .status))) 0
-          → shown (pick b (userStep d v (systemBlockOf d m)) (kernelStep d v m)) m ≡ enteredBy d m (enters (16 + k) (d .registers) k (withoutLevel (d .pending) k))
+          → shown (pick b (userStep d v (systemBlockOf d m)) (kernelStep d v m)) m ≡ enteredBy d m
+          (enters (16 + k) (d .registers) k (withoutLevel (d .pending) k))
       go true z = rw (← z) (ap (enteredBy d m) (entered k (d .registers) (d .pending) _ h))
       go false z = absurd (omega arith)
 
@@ -113,13 +126,15 @@ exec-kept s map r m = go (userMode s)
     v : View
     v = viewBy s map m
 
-    go : (b : Bool) → Kept m (pick b (userEnd s m v (userCommand v r (flagsOf s))) (kernelEnd s m v (kernelCommand v r (flagsOf s))))
+    go : (b : Bool) → Kept m
+        (pick b (userEnd s m v (userCommand v r (flagsOf s))) (kernelEnd s m v (kernelCommand v r (flagsOf s))))
     go true = user-kept s m v (userCommand v r (flagsOf s))
     go false = kernel-kept s m v (kernelCommand v r (flagsOf s))
 
 -- ---- The end, concluded over the memory that the command left
 
-end-over : (d : Desk) (m : Memory) (o : Out) (w : Registers) (y : Memory) → Kept m (outAs o w y) → concludedEnd d y (outAs o w y) ≡ concludedEnd d m (outAs o w y)
+end-over : (d : Desk) (m : Memory) (o : Out) (w : Registers) (y : Memory) → Kept m (outAs o w y)
+    → concludedEnd d y (outAs o w y) ≡ concludedEnd d m (outAs o w y)
 unfolding concludedEnd
 end-over d m (out.Done s) w y k = refl
 end-over d m (out.System x) w y k = rw k
@@ -127,8 +142,10 @@ end-over d m out.Halt w y k = rw k
 end-over d m (out.Resume a) w y k = rw k
 end-over d m (out.Alarm x n) w y k = rw k
 
-pub command-step : (d : Desk) (m : Memory) (o : Out) (w : Registers) (y : Memory) → interruptOf (d .status) (d .pending) ≡ 0
-    → outAs o w y ≡ execOf (d .status) (d .map) (d .registers) m → (s : Stepped) → s ≡ concludedEnd d y (outAs o w y) → s ≡ shown (oneStep d m) m
+pub command-step : (d : Desk) (m : Memory) (o : Out) (w : Registers) (y : Memory)
+    → interruptOf (d .status) (d .pending) ≡ 0
+    → outAs o w y ≡ execOf (d .status) (d .map) (d .registers) m → (s : Stepped) → s ≡ concludedEnd d y (outAs o w y)
+    → s ≡ shown (oneStep d m) m
 command-step d m o w y none e s g =
     let kept : Kept m (outAs o w y) = rw e (exec-kept (d .status) (d .map) (d .registers) m) in
     g ∙ end-over d m o w y kept ∙ ap (concludedEnd d m) e ∙ sym (step-ends d m none)
@@ -165,7 +182,8 @@ exec-resumes s map r m = go (userMode s) refl
     kernel k (alarm n x) = tt
 
     go : (b : Bool) → userMode s ≡ b
-        → Resumes s (pick b (userEnd s m v (userCommand v r (flagsOf s))) (kernelEnd s m v (kernelCommand v r (flagsOf s))))
+        → Resumes s (pick b (userEnd s m v (userCommand v r (flagsOf s)))
+        (kernelEnd s m v (kernelCommand v r (flagsOf s))))
     go true k = user (userCommand v r (flagsOf s))
     go false k = kernel k (kernelCommand v r (flagsOf s))
 

@@ -18,7 +18,8 @@ fn running(d: Desk, registers: [u32; 16], status: u32) -> Desk
     d.with(registers, status, d.pending, Mark::Running)
 }
 
-// What some steps came to: their number, the desk and, where one step was asked for, what it came to.
+// What some steps came to: their number, the desk and, where one step was asked for, what it came
+// to.
 pub struct Progress {
     pub count: u64,
     pub last: StepAnswer,
@@ -31,12 +32,15 @@ fn made(count: u64, last: StepAnswer, desk: Desk) -> Progress
     Progress { count, last, desk }
 }
 
-// At most n steps, up to a stop. While commands end quietly, registers and status stay in locals; all else goes through the whole desk.
-// The only call of `exec` is here, so that it becomes part of the loop; one step is a run of one.
+// At most n steps, up to a stop. While commands end quietly, registers and status stay in locals;
+// all else goes through the whole desk. The only call of `exec` is here, so that it becomes part of
+// the loop; one step is a run of one.
 pub fn steps(d: Desk, mem: &mut [u8], n: u64) -> Progress
     requires { ⌜ stepRefusal d (length (now mem)) ≡ Answer.Accepted ⌝ }
-    ensures all { λ r. ⌜ ran Answer.Accepted (r .count) (r .desk) (now (mem .exit)) ≡ stepsOf n 0 d (now (mem .entry)) ⌝ }
-    ensures one { λ r. ⌜ (n ≡ 1 → steppedTo (r .last) (r .desk) (now (mem .exit)) ≡ shown (oneStep d (now (mem .entry))) (now (mem .entry))) ⌝ }
+    ensures all { λ r. ⌜ ran Answer.Accepted (r .count) (r .desk) (now (mem .exit))
+        ≡ stepsOf n 0 d (now (mem .entry)) ⌝ }
+    ensures one { λ r. ⌜
+        (n ≡ 1 → steppedTo (r .last) (r .desk) (now (mem .exit)) ≡ shown (oneStep d (now (mem .entry))) (now (mem .entry))) ⌝ }
 {
     let mut desk = d;
     let mut last = StepAnswer::Done;

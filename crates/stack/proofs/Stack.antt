@@ -26,7 +26,8 @@ module _ (v : View) (n i : ℕ) (r : Registers) where
   unfolding popped
   popped-next h w e = let p : n - i ≡ suc (n - (i + 1)) = omega arith in rw (p, read-virtual, ← e, add-one i)
 
-  pub popped-alarm : i < n → (k : Alarm) (x : ℕ) → alarm k x ≡ readBytes v Read 4 (record { 0 = reg r 14 }) → popped v (n - i) i r ≡ alarm k x
+  pub popped-alarm : i < n → (k : Alarm) (x : ℕ) → alarm k x ≡ readBytes v Read 4 (record { 0 = reg r 14 })
+      → popped v (n - i) i r ≡ alarm k x
   unfolding popped
   popped-alarm h k x e = let p : n - i ≡ suc (n - (i + 1)) = omega arith in rw (p, read-virtual, ← e)
 
@@ -62,7 +63,14 @@ writes-append (x ∷ xs) ys a =
 word-after : (ws : List ℕ) (w a b : ℕ) → wrap (a + 4 * length ws) ≡ wrap b
     → writesFrom a (bytesOfWords ws) ++ writesFrom b (bytesOf 4 w) ≡ writesFrom a (bytesOfWords (ws ++ w ∷ []))
 word-after ws w a b e =
-    rw (words-append, one-word, writes-append (bytesOfWords ws) (bytesOf 4 w) a, words-length ws, writes-same (bytesOf 4 w) (a + 4 * length ws) b e)
+    rw (
+      words-append,
+      one-word,
+      writes-append (bytesOfWords ws) (bytesOf 4 w) a,
+      words-length ws,
+      writes-same
+          (bytesOf 4 w) (a + 4 * length ws) b e,
+    )
 
 -- n bytes above SP lowered by n + 4
 up-again : (sp n : ℕ) → n ≤ 56 → wrap (lowered sp (n + 4) + n) ≡ wrap (lowered sp 4)
@@ -70,36 +78,62 @@ up-again sp n l = omega arith
 
 -- one turn: SP lowered once is what R14 stores, the others store themselves
 module _ (i sp : ℕ) (r : Registers) (ws : VirtualWrites) (f : ℕ) where
-  pushed-own : i ≡ 14 → pushed (suc i) sp r ws f ≡ pushed i (lowered sp 4) r (writesFrom (lowered sp 4) (bytesOf 4 (lowered sp 4)) ++ ws) f
+  pushed-own : i ≡ 14 → pushed (suc i) sp r ws f ≡ pushed i (lowered sp 4) r
+      (writesFrom (lowered sp 4) (bytesOf 4 (lowered sp 4)) ++ ws) f
   unfolding pushed
   pushed-own e = rw (eq-eqb i 14 e)
 
-  pushed-other : i < 14 → pushed (suc i) sp r ws f ≡ pushed i (lowered sp 4) r (writesFrom (lowered sp 4) (bytesOf 4 (reg r i)) ++ ws) f
+  pushed-other : i < 14 → pushed (suc i) sp r ws f ≡ pushed i (lowered sp 4) r
+      (writesFrom (lowered sp 4) (bytesOf 4 (reg r i)) ++ ws) f
   unfolding pushed
   pushed-other l = rw (ne-eqb i 14 (λ e. omega arith))
 
 -- the turns for i - 1 downto 0 write the registers below Ri
 pushed-registers : (i sp : ℕ) (r : Registers) (ws : VirtualWrites) (f : ℕ) → i ≤ 14 → sp < 0x1_0000_0000
     → pushed i sp r ws f
-    ≡ record { registers = set r 14 (lowered sp (4 * i)); flags = f; writes = writesFrom (lowered sp (4 * i)) (bytesOfWords (registersFrom i 0 r)) ++ ws }
+    ≡ record {
+      registers = set r 14 (lowered sp (4 * i));
+      flags = f;
+      writes = writesFrom (lowered sp (4 * i))
+          (bytesOfWords (registersFrom i 0 r)) ++ ws;
+    }
 pushed-registers zero sp r ws f l h =
     let e : lowered sp (4 * 0) ≡ sp = omega arith in
     rw e (unfold pushed registersFrom bytesOfWords writesFrom in refl)
 pushed-registers (suc i) sp r ws f l h =
     let low : lowered (lowered sp 4) (4 * i) ≡ lowered sp (4 * suc i) = omega arith in
     let four : 4 * suc i ≡ 4 * i + 4 = omega arith in
-    let last : registersFrom (suc i) 0 r ≡ registersFrom i 0 r ++ reg r i ∷ [] = rw zero-add at (registers-last i 0 r) in
+    let last : registersFrom (suc i) 0 r ≡ registersFrom i 0 r ++ reg r i
+    ∷ [] = rw zero-add at (registers-last i 0 r) in
     pushed-other i sp r ws f l
-    ∙ pushed-registers i (lowered sp 4) r (writesFrom (lowered sp 4) (bytesOf 4 (reg r i)) ++ ws) f (omega arith) (omega arith)
-    ∙ rw (low, last, ← append-assoc, word-after (registersFrom i 0 r) (reg r i) (lowered sp (4 * suc i)) (lowered sp 4) (rw (registers-length i 0 r, four) (up-again sp (4 * i) (omega arith))))
+    ∙ pushed-registers i (lowered sp 4) r (writesFrom (lowered sp 4) (bytesOf 4 (reg r i)) ++ ws) f (omega arith)
+    (omega arith)
+    ∙ rw (
+      low,
+      last,
+      ← append-assoc,
+      word-after (registersFrom i 0 r) (reg r i) (lowered sp (4 * suc i))
+          (lowered sp 4) (rw (registers-length i 0 r, four) (up-again sp (4 * i) (omega arith))),
+    )
 
 pub pushed-all : (sp : ℕ) (r : Registers) (f : ℕ) → pushed 15 sp r [] f
-    ≡ record { registers = set r 14 (lowered sp 60); flags = f; writes = writesFrom (lowered sp 60) (bytesOfWords (registersFrom 14 0 r ++ lowered sp 4 ∷ [])) }
+    ≡ record {
+      registers = set r 14 (lowered sp 60);
+      flags = f;
+      writes = writesFrom (lowered sp 60)
+          (bytesOfWords (registersFrom 14 0 r ++ lowered sp 4 ∷ []));
+    }
 pushed-all sp r f =
     let low : lowered (lowered sp 4) 56 ≡ lowered sp 60 = omega arith in
     pushed-own 14 sp r [] f refl
-    ∙ pushed-registers 14 (lowered sp 4) r (writesFrom (lowered sp 4) (bytesOf 4 (lowered sp 4)) ++ []) f (omega arith) (omega arith)
-    ∙ rw (low, append-nil, word-after (registersFrom 14 0 r) (lowered sp 4) (lowered sp 60) (lowered sp 4) (rw (registers-length 14 0 r) (up-again sp 56 (omega arith))))
+    ∙ pushed-registers 14 (lowered sp 4) r (writesFrom (lowered sp 4) (bytesOf 4 (lowered sp 4)) ++ []) f
+    (omega arith) (omega arith)
+    ∙ rw (
+      low,
+      append-nil,
+      word-after (registersFrom 14 0 r) (lowered sp 4) (lowered sp 60) (lowered sp 4)
+          (rw (registers-length 14 0 r) (up-again sp 56 (omega arith))),
+    )
 
 -- ---- The row of words: R0 to R13 in their places, then SP
 
@@ -111,11 +145,17 @@ module _ (r : Registers) (sp : ℕ) where
   pub row-next : (i : ℕ) → i < 14 → set (rowAt i) i (reg r i) ≡ rowAt (i + 1)
   row-next i h =
       let n : 15 - i ≡ suc (15 - (i + 1)) = omega arith in
-      let seam : set (registersFrom i 0 r ++ sp ∷ replicate (15 - (i + 1)) sp) i (reg r i) ≡ registersFrom i 0 r ++ reg r i ∷ replicate (15 - (i + 1)) sp = rw (registers-length i 0 r) at (set-append-seam (registersFrom i 0 r) sp (replicate (15 - (i + 1)) sp) (reg r i)) in
+      let seam : set (registersFrom i 0 r ++ sp ∷ replicate (15 - (i + 1)) sp) i (reg r i) ≡ registersFrom i 0 r
+      ++ reg r i ∷ replicate (15 - (i + 1)) sp =
+      rw (registers-length i 0 r)
+      at (set-append-seam (registersFrom i 0 r) sp (replicate (15 - (i + 1)) sp) (reg r i)) in
       rw (n, seam, add-one i, registers-last i 0 r, zero-add i, append-assoc)
 
   pub row-length : length (registersFrom 14 0 r ++ sp ∷ []) ≡ 15
   row-length = rw (length-append, registers-length 14 0 r)
 
-  pub row-bytes : take 60 (bytesOfWords (registersFrom 14 0 r ++ sp ∷ [])) ≡ bytesOfWords (registersFrom 14 0 r ++ sp ∷ [])
-  row-bytes = take-all 60 (bytesOfWords (registersFrom 14 0 r ++ sp ∷ [])) (omega (arith, row-length, words-length (registersFrom 14 0 r ++ sp ∷ [])))
+  pub row-bytes : take 60 (bytesOfWords (registersFrom 14 0 r ++ sp ∷ [])) ≡ bytesOfWords
+      (registersFrom 14 0 r ++ sp ∷ [])
+  row-bytes =
+      take-all 60 (bytesOfWords (registersFrom 14 0 r ++ sp ∷ []))
+      (omega (arith, row-length, words-length (registersFrom 14 0 r ++ sp ∷ [])))

@@ -4,10 +4,9 @@ ghost use mathlib.Core.List.{[], _++_, _∷_};
 ghost use Rattle.lookup.specs.Answers.{Fits};
 ghost use Rattle.machine.specs.Alarms.{got};
 ghost use Rattle.machine.specs.Commands.{called, poppedDone, pushed, returnedDone};
-ghost use Rattle.machine.specs.Map.{viewBy};
 ghost use Rattle.machine.specs.State.{flagsOf, reg, registersFrom};
 ghost use Rattle.machine.specs.Words.{bytesOfWords};
-ghost use Rattle.results.specs.Ends.{doneEnd, outAs};
+ghost use Rattle.results.specs.Ends.{endIn, outAs};
 use machine::Map;
 use machine::Size;
 use machine::VirtualAddress;
@@ -31,7 +30,9 @@ fn stacked(regs: &[u32; 16], sp: u32) -> [u8; 60]
 
 pub fn push(mem: &mut [u8], regs: &mut [u32; 16], status: u32, map: Map) -> Out
     requires { ⌜ Fits map (now mem) ⌝ }
-    ensures { λ r. ⌜ outAs r (now (regs .exit)) (now (mem .exit)) ≡ doneEnd status (now (mem .entry)) (viewBy status map (now (mem .entry))) (got (pushed 15 (reg (now (regs .entry)) 14) (now (regs .entry)) [] (flagsOf status))) ⌝ }
+    ensures { λ r. ⌜ outAs r (now (regs .exit)) (now (mem .exit))
+        ≡ endIn status map (now (mem .entry))
+        (λ v. got (pushed 15 (reg (now (regs .entry)) 14) (now (regs .entry)) [] (flagsOf status))) ⌝ }
 {
     let sp = regs[14];
     let bytes = stacked(regs, words::minus(sp, 4));
@@ -43,7 +44,8 @@ pub fn push(mem: &mut [u8], regs: &mut [u32; 16], status: u32, map: Map) -> Out
 
 pub fn pop(mem: &[u8], regs: &mut [u32; 16], status: u32, map: Map) -> Out
     requires { ⌜ Fits map (now mem) ⌝ }
-    ensures { λ r. ⌜ outAs r (now (regs .exit)) (now (mem .entry)) ≡ doneEnd status (now (mem .entry)) (viewBy status map (now (mem .entry))) (poppedDone (viewBy status map (now (mem .entry))) (now (regs .entry)) (flagsOf status)) ⌝ }
+    ensures { λ r. ⌜ outAs r (now (regs .exit)) (now (mem .entry))
+        ≡ endIn status map (now (mem .entry)) (λ v. poppedDone v (now (regs .entry)) (flagsOf status)) ⌝ }
 {
     let mut i: usize = 0;
     while i < 15 {
@@ -64,7 +66,8 @@ pub fn pop(mem: &[u8], regs: &mut [u32; 16], status: u32, map: Map) -> Out
 
 pub fn call(mem: &mut [u8], regs: &mut [u32; 16], status: u32, map: Map, a: u32) -> Out
     requires { ⌜ Fits map (now mem) ⌝ }
-    ensures { λ r. ⌜ outAs r (now (regs .exit)) (now (mem .exit)) ≡ doneEnd status (now (mem .entry)) (viewBy status map (now (mem .entry))) (got (called a (now (regs .entry)) (flagsOf status))) ⌝ }
+    ensures { λ r. ⌜ outAs r (now (regs .exit)) (now (mem .exit))
+        ≡ endIn status map (now (mem .entry)) (λ v. got (called a (now (regs .entry)) (flagsOf status))) ⌝ }
 {
     let sp = words::minus(regs[14], 4);
     let done = stores::store(mem, status, map, VirtualAddress(sp), Size::W, regs[15]);
@@ -75,7 +78,8 @@ pub fn call(mem: &mut [u8], regs: &mut [u32; 16], status: u32, map: Map, a: u32)
 
 pub fn ret(mem: &[u8], regs: &mut [u32; 16], status: u32, map: Map) -> Out
     requires { ⌜ Fits map (now mem) ⌝ }
-    ensures { λ r. ⌜ outAs r (now (regs .exit)) (now (mem .entry)) ≡ doneEnd status (now (mem .entry)) (viewBy status map (now (mem .entry))) (returnedDone (viewBy status map (now (mem .entry))) (now (regs .entry)) (flagsOf status)) ⌝ }
+    ensures { λ r. ⌜ outAs r (now (regs .exit)) (now (mem .entry))
+        ≡ endIn status map (now (mem .entry)) (λ v. returnedDone v (now (regs .entry)) (flagsOf status)) ⌝ }
 {
     let sp = regs[14];
     let w = reads::read(mem, status, map, VirtualAddress(sp), Size::W);

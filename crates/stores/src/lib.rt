@@ -1,11 +1,11 @@
-// Values and rows of bytes to memory through the map: every byte is looked up, in the memory from the start, before any is written.
+// Values and rows of bytes to memory through the map: every byte is looked up, in the memory from
+// the start, before any is written.
 ghost use mathlib.Core.Path.{_≡_};
 ghost use Prim.Native.Nat.{_≤_};
 ghost use lib.ListN.{take};
 ghost use Rattle.lookup.specs.Answers.{Fits};
-ghost use Rattle.machine.specs.Map.{located, viewBy, writesFrom};
 ghost use Rattle.machine.specs.Words.{bytesOf, lengthOf};
-ghost use Rattle.stores.specs.Answers.{storeEndOf, storedAs};
+ghost use Rattle.stores.specs.Answers.{storedAs, storedIn};
 use lookup::Lookup;
 use machine::Access;
 use machine::Alarm;
@@ -30,7 +30,8 @@ pub fn store_bytes(
     n: usize,
 ) -> Stored
     requires { ⌜ Fits map (now mem) × (n ≤ 60) ⌝ }
-    ensures { λ r. ⌜ storedAs r (now (mem .exit)) ≡ storeEndOf (now (mem .entry)) (located (viewBy status map (now (mem .entry))) (writesFrom (x .0) (take n (now (bytes .entry))))) ⌝ }
+    ensures { λ r. ⌜ storedAs r (now (mem .exit))
+        ≡ storedIn status map (now (mem .entry)) x (take n (now (bytes .entry))) ⌝ }
 {
     let source = &bytes[..];
     let mut places: [RealAddress; 60] = [RealAddress(0); 60];
@@ -77,7 +78,8 @@ pub fn store(
     value: u32,
 ) -> Stored
     requires { ⌜ Fits map (now mem) ⌝ }
-    ensures { λ r. ⌜ storedAs r (now (mem .exit)) ≡ storeEndOf (now (mem .entry)) (located (viewBy status map (now (mem .entry))) (writesFrom (x .0) (bytesOf (lengthOf size) value))) ⌝ }
+    ensures { λ r. ⌜ storedAs r (now (mem .exit))
+        ≡ storedIn status map (now (mem .entry)) x (bytesOf (lengthOf size) value) ⌝ }
 {
     let n = size.length();
     if x.0 % 512 + n <= 512 {
@@ -100,7 +102,7 @@ pub fn store(
 // A word to an address. Small enough to become part of its caller.
 pub fn store_word(mem: &mut [u8], status: u32, map: Map, x: VirtualAddress, value: u32) -> Stored
     requires { ⌜ Fits map (now mem) ⌝ }
-    ensures { λ r. ⌜ storedAs r (now (mem .exit)) ≡ storeEndOf (now (mem .entry)) (located (viewBy status map (now (mem .entry))) (writesFrom (x .0) (bytesOf 4 value))) ⌝ }
+    ensures { λ r. ⌜ storedAs r (now (mem .exit)) ≡ storedIn status map (now (mem .entry)) x (bytesOf 4 value) ⌝ }
 {
     if x.0 % 512 <= 508 {
         let s = lookup::look(mem, status, map, x, Access::Write);

@@ -1,8 +1,9 @@
 // trace: runs a program from standard input on a fresh desk and prints each step.
 //
-// Up to 65,536 bytes are taken into a memory of zeros; the desk gets the least allowed length that covers them, system block 0, control block 256, start
-// 512, and makes at most 1,000 steps. Each line has the step, and R15 and the status after it; the last says `stop` with the number, or `end`. Longer
-// input prints only `1`, the number of the refusal.
+// Up to 65,536 bytes are taken into a memory of zeros; the desk gets the least allowed length that
+// covers them, system block 0, control block 256, start 512, and makes at most 1,000 steps. Each
+// line has the step, and R15 and the status after it; the last says `stop` with the number, or
+// `end`. Longer input prints only `1`, the number of the refusal.
 ghost use mathlib.Core.Path.{_≡_};
 ghost use Prim.Native.Nat.{_≤_};
 ghost use Rattle.trace.specs.Length.{leastLength};

@@ -30,7 +30,9 @@ module _ (m : Memory) (a v : ℕ) where
   pub two-bytes-laid : set (set m a (v / 256 % 256)) (a + 1) (v % 256) ≡ sets m a (bytesOf 2 v)
   two-bytes-laid = rw (two-bytes, add-one)
 
-  pub four-bytes-laid : set (set (set (set m a (v / 0x100_0000 % 256)) (a + 1) (v / 0x1_0000 % 256)) (a + 2) (v / 0x100 % 256)) (a + 3) (v % 256) ≡ sets m a (bytesOf 4 v)
+  pub four-bytes-laid : set
+      (set (set (set m a (v / 0x100_0000 % 256)) (a + 1) (v / 0x1_0000 % 256)) (a + 2) (v / 0x100 % 256)) (a + 3)
+      (v % 256) ≡ sets m a (bytesOf 4 v)
   four-bytes-laid =
       let second : a + 1 ≡ suc a = omega arith in
       let third : a + 2 ≡ suc (suc a) = omega arith in

@@ -1,4 +1,5 @@
-// Numbers and their bytes, highest first, at places of a slice; and the sums of 32 bits that addresses and register steps are made of.
+// Numbers and their bytes, highest first, at places of a slice; and the sums of 32 bits that
+// addresses and register steps are made of.
 ghost use mathlib.Core.Path.{_≡_};
 ghost use Prim.Native.Nat.{_*_, _+_, _<_, _≤_};
 ghost use lib.ListN.{length};

@@ -1,4 +1,5 @@
--- `action_of` is right: each arm's bytes are those of its command's rows, and bytes that no arm names lie in no row.
+-- `action_of` is right: each arm's bytes are those of its command's rows, and bytes that no arm
+-- names lie in no row.
 use Prim.Native.Nat.{ℕ, _+_, _%_, _≤_, _<_}
 use mathlib.Core.Path.{_≡_, refl}
 use lib.Dec.{T}

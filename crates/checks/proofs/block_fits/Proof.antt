@@ -1,4 +1,5 @@
--- `block_fits` is right: the first test is the alignment, the second the end; a sum of an address and a length that is bounded fits 64 bits.
+-- `block_fits` is right: the first test is the alignment, the second the end; a sum of an address
+-- and a length that is bounded fits 64 bits.
 use borrow.Author.Needs.{needs}
 use borrow.Author.Tests.{eq-eqb, ne-eqb}
 use Rattle.machine.specs.State.{blockFits}

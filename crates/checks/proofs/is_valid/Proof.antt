@@ -1,4 +1,5 @@
--- `is_valid` is right: A status word is valid where the bits between mode and level are 0, which is the test.
+-- `is_valid` is right: A status word is valid where the bits between mode and level are 0, which is
+-- the test.
 use mathlib.Core.Path.{refl}
 use Rattle.machine.specs.State.{validStatus}
 use Rattle.checks.proofs.is_valid.Statement.{statement}

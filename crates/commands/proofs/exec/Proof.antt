@@ -1,4 +1,5 @@
--- `exec` is right: it ends at the first alarm of byte, mode and operands, or with what `finish` makes of what the byte asks for.
+-- `exec` is right: it ends at the first alarm of byte, mode and operands, or with what `finish`
+-- makes of what the byte asks for.
 use mathlib.Core.Path.{sym, _∙_}
 use borrow.Author.Needs.{needs}
 use Rattle.commands.proofs.Laws.{exec-unfetched, exec-forbidden, exec-alarm, exec-action}
@@ -11,25 +12,35 @@ returns c =
     let byte = mode .before .before .c2 .given .1 in
     let fetched = mode .before .before .before .before .fetch .ensures in
     let a = mode .before .before .before .before .before .before .before .before .args in
-    exec-forbidden (a .status) (a .map) (a .regs .now) (a .mem .now) _ (rw byte at (fetched .0)) (rw byte at (fetched .1 .0)) (sym (mode .forbidden .ensures) ∙ c .if1 .taken)
+    exec-forbidden (a .status) (a .map) (a .regs .now) (a .mem .now) _ (rw byte at (fetched .0))
+    (rw byte at (fetched .1 .0)) (sym (mode .forbidden .ensures) ∙ c .if1 .taken)
 
 rules-of-requires : tie.Need-rules-of-requires
 rules-of-requires c κs =
-    let fetched = c .before .before .before .before .before .before in
-    (fetched .before .before .before .before .pre .1, rw (c .before .before .before .before .c2 .given .1) at (fetched .fetch .ensures .1 .0))
+    let fetched = c .before .before .before .before .before .before in (
+      fetched .before .before .before .before .pre .1,
+      rw (c .before .before .before .before .c2 .given .1) at (fetched .fetch .ensures .1 .0),
+    )
 
 take-all-requires : tie.Need-take-all-requires
 take-all-requires c κs =
-    let fetched = c .before .before .before .before .before .before .before .before .before in
-    (fetched .before .before .before .before .pre .0, rw (c .before .before .before .before .before .before .before .c2 .given .1) at (fetched .fetch .ensures .1 .1), c .before .before .rules-of .ensures .1)
+    let fetched = c .before .before .before .before .before .before .before .before .before in (
+      fetched .before .before .before .before .pre .0,
+      rw (c .before .before .before .before .before .before .before .c2 .given .1) at (fetched .fetch .ensures .1 .1),
+      c .before .before .rules-of .ensures .1,
+    )
 
 finish-requires : tie.Need-finish-requires
-finish-requires c κs = (c .before .before .before .before .before .before .before .before .before .before .before .before .before .before .before .before .before .before .before .before .pre .0, rw (c .before .before .before .before .o2 .given .1) at (c .before .before .before .before .before .before .take-all .ensures .1))
+finish-requires c κs =
+    let taken = c .before .before .before .before .before .before in
+    let start = taken .before .before .before .before .before .before .before .before .before .before .before .before .before .before in
+    (start .pre .0, rw (c .before .before .before .before .o2 .given .1) at (taken .take-all .ensures .1))
 
 returns-2 : tie.Need-returns-2
 returns-2 c =
     let a = c .before .before .before .before .before .before .before .args in
-    exec-unfetched (a .status) (a .map) (a .regs .now) (a .mem .now) _ _ (rw (c .before .c .given .1) at (c .before .before .before .fetch .ensures .0))
+    exec-unfetched (a .status) (a .map) (a .regs .now) (a .mem .now) _ _
+    (rw (c .before .c .given .1) at (c .before .before .before .fetch .ensures .0))
 
 returns-3 : tie.Need-returns-3
 returns-3 c =
@@ -37,8 +48,15 @@ returns-3 c =
     let byte = mode .before .before .c2 .given .1 in
     let fetched = mode .before .before .before .before .fetch .ensures in
     let a = mode .before .before .before .before .before .before .before .before .args in
-    exec-alarm (a .status) (a .map) (a .regs .now) (a .mem .now) _ (rw byte at (fetched .0)) (rw byte at (fetched .1 .0)) (sym (mode .forbidden .ensures) ∙ c .before .before .before .before .before .before .before .before .if1 .left) _ _
-    (rw (c .before .o .given .1, c .before .before .before .before .before .before .rules-of .ensures .0, c .before .before .before .before .before .before .before .plus .ensures) at (c .before .before .before .take-all .ensures .0))
+    exec-alarm (a .status) (a .map) (a .regs .now) (a .mem .now) _ (rw byte at (fetched .0))
+    (rw byte at (fetched .1 .0))
+    (sym (mode .forbidden .ensures) ∙ c .before .before .before .before .before .before .before .before .if1 .left) _ _
+    (rw (
+      c .before .o .given .1,
+      c .before .before .before .before .before .before .rules-of .ensures .0,
+      c .before .before .before .before .before .before .before .plus .ensures,
+    )
+    at (c .before .before .before .take-all .ensures .0))
 
 returns-4 : tie.Need-returns-4
 returns-4 c =
@@ -48,8 +66,15 @@ returns-4 c =
     let a = mode .before .before .before .before .before .before .before .before .args in
     c .before .before .finish .ensures
     ∙ rw (c .before .before .before .before .before .action-of .ensures)
-    (exec-action (a .status) (a .map) (a .regs .now) (a .mem .now) _ (rw byte at (fetched .0)) (rw byte at (fetched .1 .0)) (sym (mode .forbidden .ensures) ∙ c .before .before .before .before .before .before .before .before .before .before .before .before .before .before .if1 .left) _
-    (rw (c .before .before .before .before .before .before .before .o2 .given .1, c .before .before .before .before .before .before .before .before .before .before .before .before .rules-of .ensures .0, c .before .before .before .before .before .before .before .before .before .before .before .before .before .plus .ensures) at (c .before .before .before .before .before .before .before .before .before .take-all .ensures .0)))
+    (exec-action (a .status) (a .map) (a .regs .now) (a .mem .now) _ (rw byte at (fetched .0))
+    (rw byte at (fetched .1 .0))
+    (sym (mode .forbidden .ensures)
+    ∙ c .before .before .before .before .before .before .before .before .before .before .before .before .before .before .if1 .left) _
+    (rw (
+      c .before .before .before .before .before .before .before .o2 .given .1,
+      c .before .before .before .before .before .before .before .before .before .before .before .before .rules-of .ensures .0,
+      c .before .before .before .before .before .before .before .before .before .before .before .before .before .plus .ensures,
+    ) at (c .before .before .before .before .before .before .before .before .before .take-all .ensures .0)))
 
 pub exec-spec : {M : Type 1} → statement M
 exec-spec =

@@ -1,4 +1,5 @@
--- `finish` is right in each case of the act: its function ends the command, or the end is what the case says.
+-- `finish` is right in each case of the act: its function ends the command, or the end is what the
+-- case says.
 use borrow.Author.Needs.{needs}
 use Rattle.commands.specs.Execution.{actionEnd}
 use Rattle.commands.proofs.finish.Statement.{statement}

@@ -1,4 +1,5 @@
--- `read` is safe, and reads no more than n bytes: the part of the buffer that it lends is no longer.
+-- `read` is safe, and reads no more than n bytes: the part of the buffer that it lends is no
+-- longer.
 use native.Mathlib.Omega.{arith}
 use borrow.Author.Needs.{needs}
 use lib.ListN.{length-take}

@@ -16,7 +16,8 @@ returns c =
 returns-2 : tie.Need-returns-2
 returns-2 c =
     let q = c .before .before .before .before .before .before .before in
-    c .before .before .before .steps .ensures .0 ∙ accepted-run (q .before .before .args .d) _ _ (sym (q .refusal .ensures) ∙ c .before .before .before .before .before .enum-told .given .1)
+    c .before .before .before .steps .ensures .0 ∙ accepted-run (q .before .before .args .d) _ _
+    (sym (q .refusal .ensures) ∙ c .before .before .before .before .before .enum-told .given .1)
 
 pub run-spec : {M : Type 1} → statement M
 run-spec =

@@ -9,11 +9,14 @@ use Rattle.entry.proofs.alarm.Tie as tie
 returns : tie.Need-returns
 returns c =
     let called = c .before .before .before in
-    rw (lt-ltb _ _ (called .before .before .before .if1 .taken), ← called .cause .ensures) (c .before .before .enter .ensures)
+    rw (lt-ltb _ _ (called .before .before .before .if1 .taken), ← called .cause .ensures)
+    (c .before .before .enter .ensures)
 
 returns-2 : tie.Need-returns-2
 unfolding stop commit
 returns-2 c = rw (le-ltb _ _ (c .before .if1 .left), c .stop-for .ensures)
 
 pub alarm-spec : {M : Type 1} → statement M
-alarm-spec = tie.close (tie.spec (λ c κs. search needs) (λ c κs. search needs) (λ c. search needs) returns (λ c κs. search needs) returns-2)
+alarm-spec =
+    tie.close (tie.spec (λ c κs. search needs) (λ c κs. search needs) (λ c. search needs) returns
+    (λ c κs. search needs) returns-2)

@@ -27,7 +27,8 @@ returns-3 c = simp (c .before .enum-told .given .1, c .with .ensures)
 
 returns-4 : tie.Need-returns-4
 unfolding concludedEnd
-returns-4 c = rw (c .before .before .before .before .out3 .given .1, resume-quiet, ← c .before .real .ensures, c .resume .ensures)
+returns-4 c =
+    rw (c .before .before .before .before .out3 .given .1, resume-quiet, ← c .before .real .ensures, c .resume .ensures)
 
 returns-5 : tie.Need-returns-5
 unfolding concludedEnd

@@ -1,4 +1,5 @@
--- `enter` is right: the system block names the new R15 and status; where that status is valid the registers are saved, and nothing changes where it is not.
+-- `enter` is right: the system block names the new R15 and status; where that status is valid the
+-- registers are saved, and nothing changes where it is not.
 use borrow.Author.Needs.{needs}
 use Rattle.machine.specs.Steps.{stop, enterIf, concluded}
 use Rattle.machine.specs.Map.{commit}
@@ -11,7 +12,12 @@ returns : tie.Need-returns
 unfolding systemBlockOf commit stop enterIf concluded
 returns c =
     let v = c .before .before in
-    simp (c .stop .ensures, ← v .before .entry-status .ensures, fails (v .is-valid-kernel .ensures) (c .before .if1 .taken))
+    simp (
+      c .stop .ensures,
+      ← v .before .entry-status .ensures,
+      fails (v .is-valid-kernel .ensures)
+          (c .before .if1 .taken),
+    )
 
 returns-2 : tie.Need-returns-2
 unfolding systemBlockOf enterIf concluded
@@ -19,7 +25,14 @@ returns-2 c =
     let w = c .before .before .before in
     let e = w .before .before .before .before in
     let v = e .before .before .before in
-    simp (c .with .ensures, w .save .ensures, ← v .before .entry-status .ensures, ← e .entry-r15 .ensures, holds (v .is-valid-kernel .ensures) (e .before .before .if1 .left))
+    simp (
+      c .with .ensures,
+      w .save .ensures,
+      ← v .before .entry-status .ensures,
+      ← e .entry-r15 .ensures,
+      holds
+          (v .is-valid-kernel .ensures) (e .before .before .if1 .left),
+    )
 
 pub enter-spec : {M : Type 1} → statement M
 enter-spec =

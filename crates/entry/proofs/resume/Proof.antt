@@ -1,4 +1,5 @@
--- `resume` is right: the tests are those of the definition, and each that fails stops with 14; else the block is loaded.
+-- `resume` is right: the tests are those of the definition, and each that fails stops with 14; else
+-- the block is loaded.
 use Prim.Native.Nat.{_+_, _≤_}
 use mathlib.Core.Path.{_≡_}
 use mathlib.Core.Bool.{true}
@@ -12,10 +13,12 @@ use Rattle.checks.proofs.Tests.{fails, holds}
 use Rattle.entry.proofs.resume.Statement.{statement}
 use Rattle.entry.proofs.resume.Tie as tie
 
-fits : (c : tie.Else1) → blockFits (c .before .before .before .args .a) 80 (length (c .before .before .before .args .mem .now)) ≡ true
+fits : (c : tie.Else1) → blockFits (c .before .before .before .args .a) 80
+    (length (c .before .before .before .args .mem .now)) ≡ true
 fits c = holds (c .before .block-fits .ensures) (c .if1 .left)
 
-inside : (c : tie.Else1) → c .before .before .before .args .a .0 + 80 ≤ length (c .before .before .before .args .mem .now)
+inside : (c : tie.Else1) → c .before .before .before .args .a .0 + 80 ≤ length
+    (c .before .before .before .args .mem .now)
 inside c = block-inside _ _ _ (fits c)
 
 returns : tie.Need-returns
@@ -33,7 +36,13 @@ unfolding resume
 returns-2 c =
     let m = c .before .before in
     let w = m .before in
-    simp (c .stop-for2 .ensures, ← w .before .word .ensures, ← w .word2 .ensures, fits (w .before .before .before), fails (m .map-fits .ensures) (c .before .if2 .taken))
+    simp (
+      c .stop-for2 .ensures,
+      ← w .before .word .ensures,
+      ← w .word2 .ensures,
+      fits (w .before .before .before),
+      fails (m .map-fits .ensures) (c .before .if2 .taken),
+    )
 
 word-requires-3 : tie.Need-word-requires-3
 word-requires-3 c κs = omega (arith, inside (c .before .before .before .before .before))
@@ -44,7 +53,17 @@ returns-3 c =
     let v = c .before .before in
     let e = v .before .before in
     let w = e .before .before in
-    simp (c .stop-for3 .ensures, ← w .before .word .ensures, ← w .word2 .ensures, ← v .before .word3 .ensures, fits (w .before .before .before), holds (e .before .map-fits .ensures) (e .if2 .left), fails (v .is-valid-user .ensures) (c .before .if3 .taken))
+    simp (
+      c .stop-for3 .ensures,
+      ← w .before .word .ensures,
+      ← w .word2 .ensures,
+      ← v .before .word3 .ensures,
+      fits
+          (w .before .before .before),
+      holds (e .before .map-fits .ensures) (e .if2 .left),
+      fails
+          (v .is-valid-user .ensures) (c .before .if3 .taken),
+    )
 
 sixteen-requires : tie.Need-sixteen-requires
 sixteen-requires c κs = omega (arith, inside (c .before .before .before .before .before .before .before .before))
@@ -55,7 +74,17 @@ returns-4 c =
     let v = c .before .before .before in
     let e = v .before .before in
     let w = e .before .before in
-    simp (c .resumed .ensures, c .before .sixteen .ensures, ← w .before .word .ensures, ← w .word2 .ensures, ← v .before .word3 .ensures, fits (w .before .before .before), holds (e .before .map-fits .ensures) (e .if2 .left), holds (v .is-valid-user .ensures) (c .before .before .if3 .left))
+    simp (
+      c .resumed .ensures,
+      c .before .sixteen .ensures,
+      ← w .before .word .ensures,
+      ← w .word2 .ensures,
+      ← v .before .word3 .ensures,
+      fits (w .before .before .before),
+      holds (e .before .map-fits .ensures)
+          (e .if2 .left),
+      holds (v .is-valid-user .ensures) (c .before .before .if3 .left),
+    )
 
 pub resume-spec : {M : Type 1} → statement M
 resume-spec =

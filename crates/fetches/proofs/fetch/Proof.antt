@@ -1,4 +1,5 @@
--- `fetch` is right: a command byte is a value of one byte, and what a slice of bytes holds is below 256.
+-- `fetch` is right: a command byte is a value of one byte, and what a slice of bytes holds is below
+-- 256.
 use mathlib.Core.Path.{_∙_, sym, ap}
 use native.Mathlib.Omega.{arith}
 use borrow.Author.Needs.{needs}
@@ -11,13 +12,18 @@ use Rattle.fetches.proofs.fetch.Statement.{statement}
 use Rattle.fetches.proofs.fetch.Tie as tie
 
 shared-slice-read-wide : tie.Need-shared-slice-read-wide
-shared-slice-read-wide c = look-inside _ _ _ _ _ _ _ (c .before .before .before .s .given .1) (c .before .before .before .before .before .look .ensures)
+shared-slice-read-wide c =
+    look-inside _ _ _ _ _ _ _ (c .before .before .before .s .given .1)
+    (c .before .before .before .before .before .look .ensures)
 
 returns : tie.Need-returns
 returns c =
     let looked = c .before .before .before .before .before .before in
-    let found = look-found (c .before .before .before .before .s .given .1) (looked .look .ensures) (looked .before .before .pre) (omega arith) in
-    (ap got (c .wide .ensures .0 ∙ one-byte-value _ _) ∙ sym (read-page found 1 (omega arith)), (c .wide .ensures .1, record { hit = found .hit }))
+    let found = look-found (c .before .before .before .before .s .given .1) (looked .look .ensures)
+    (looked .before .before .pre) (omega arith) in (
+      ap got (c .wide .ensures .0 ∙ one-byte-value _ _) ∙ sym (read-page found 1 (omega arith)),
+      (c .wide .ensures .1, record { hit = found .hit }),
+    )
 
 returns-2 : tie.Need-returns-2
 returns-2 c =

@@ -1,4 +1,5 @@
--- `fields` is right: in the page of the byte that was fetched the six bytes lie as far from it in memory as in the page; others are looked up.
+-- `fields` is right: in the page of the byte that was fetched the six bytes lie as far from it in
+-- memory as in the page; others are looked up.
 use Prim.Native.Nat.{_+_, _%_, _≤_}
 use mathlib.Core.Path.{refl}
 use native.Mathlib.Omega.{arith}
@@ -20,8 +21,15 @@ found : (c : tie.After-near) → let a = c .before .before .before .before .args
 found c =
     let s = c .before .before .before .before in
     let a = s .args in
-    let near = rw (c .near .given .1) at (c .before .before .beside .ensures) in
-    (near .0, record { small = omega arith; whole = s .pre .0 .whole; hit = near .1 .hit (a .status) (a .map) (a .mem .now) Fetch (s .pre .0 .whole) (s .pre .1 .hit) })
+    let near = rw (c .near .given .1) at (c .before .before .beside .ensures) in (
+      near .0,
+      record {
+        small = omega arith;
+        whole = s .pre .0 .whole;
+        hit = near .1 .hit (a .status) (a .map)
+            (a .mem .now) Fetch (s .pre .0 .whole) (s .pre .1 .hit);
+      },
+    )
 
 fields-at-requires : tie.Need-fields-at-requires
 fields-at-requires c κs = let f = found (c .before) in page-inside (f .1) 6 (omega arith) (f .0)

@@ -1,4 +1,5 @@
--- `fields_bytewise` is right: three reads, each from the wrapped address that the definition names, and the first alarm ends them.
+-- `fields_bytewise` is right: three reads, each from the wrapped address that the definition names,
+-- and the first alarm ends them.
 use mathlib.Core.Path.{_≡_}
 use native.Mathlib.Omega.{arith}
 use borrow.Author.Needs.{needs}
@@ -21,24 +22,57 @@ returns-2 : tie.Need-returns-2
 unfolding fieldsAt
 returns-2 c =
     let second = c .before .before .before in
-    let first = second .before .before .before .before .before in
-    (simp (unwrapped (first .before .before), c .before .b .given .1, ← second .read-bytewise2 .ensures .0, ← second .before .wrapping-add-u32 .ensures, second .before .before .before .a2 .given .1, ← first .read-bytewise .ensures .0), tt)
+    let first = second .before .before .before .before .before in (
+      simp (
+        unwrapped (first .before .before),
+        c .before .b .given .1,
+        ← second .read-bytewise2 .ensures .0,
+        ← second .before .wrapping-add-u32 .ensures,
+        second .before .before .before .a2 .given .1,
+        ← first .read-bytewise .ensures .0,
+      ),
+      tt,
+    )
 
 returns-3 : tie.Need-returns-3
 unfolding fieldsAt
 returns-3 c =
     let third = c .before .before .before in
     let second = third .before .before .before .before .before in
-    let first = second .before .before .before .before .before in
-    (simp (unwrapped (first .before .before), c .before .c .given .1, ← third .read-bytewise3 .ensures .0, ← third .before .wrapping-add-u322 .ensures, third .before .before .before .b2 .given .1, ← second .read-bytewise2 .ensures .0, ← second .before .wrapping-add-u32 .ensures, second .before .before .before .a2 .given .1, ← first .read-bytewise .ensures .0), tt)
+    let first = second .before .before .before .before .before in (
+      simp (
+        unwrapped (first .before .before),
+        c .before .c .given .1,
+        ← third .read-bytewise3 .ensures .0,
+        ← third .before .wrapping-add-u322 .ensures,
+        third .before .before .before .b2 .given .1,
+        ← second .read-bytewise2 .ensures .0,
+        ← second .before .wrapping-add-u32 .ensures,
+        second .before .before .before .a2 .given .1,
+        ← first .read-bytewise .ensures .0,
+      ),
+      tt,
+    )
 
 returns-4 : tie.Need-returns-4
 unfolding fieldsAt
 returns-4 c =
     let third = c .before .before .before in
     let second = third .before .before .before .before .before in
-    let first = second .before .before .before .before .before in
-    (simp (unwrapped (first .before .before), c .before .c2 .given .1, ← third .read-bytewise3 .ensures .0, ← third .before .wrapping-add-u322 .ensures, third .before .before .before .b2 .given .1, ← second .read-bytewise2 .ensures .0, ← second .before .wrapping-add-u32 .ensures, second .before .before .before .a2 .given .1, ← first .read-bytewise .ensures .0), rw (third .before .before .before .b2 .given .1) at (second .read-bytewise2 .ensures .1))
+    let first = second .before .before .before .before .before in (
+      simp (
+        unwrapped (first .before .before),
+        c .before .c2 .given .1,
+        ← third .read-bytewise3 .ensures .0,
+        ← third .before .wrapping-add-u322 .ensures,
+        third .before .before .before .b2 .given .1,
+        ← second .read-bytewise2 .ensures .0,
+        ← second .before .wrapping-add-u32 .ensures,
+        second .before .before .before .a2 .given .1,
+        ← first .read-bytewise .ensures .0,
+      ),
+      rw (third .before .before .before .b2 .given .1) at (second .read-bytewise2 .ensures .1),
+    )
 
 pub fields-bytewise-spec : {M : Type 1} → statement M
 fields-bytewise-spec =

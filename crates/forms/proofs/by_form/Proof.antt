@@ -1,4 +1,5 @@
--- `by_form` is right: each arm is one form, with its rule first; one wrap of an address serves for the wraps of its parts.
+-- `by_form` is right: each arm is one form, with its rule first; one wrap of an address serves for
+-- the wraps of its parts.
 use mathlib.Core.Logic.{⊎-elim}
 use native.Mathlib.Nat.{add-zero, mod-mod, mod-add-mod, add-mod-mod}
 use borrow.Author.Tests.{eq-eqb, ne-eqb, lt-leb}
@@ -10,11 +11,28 @@ use Rattle.forms.proofs.by_form.Tie as tie
 
 returns : tie.Need-returns
 unfolding keepsRules byForm
-returns c = (simp (c .before .before .before .match .keys1, c .before .before .if1 .taken, c .before .if2 .taken, c .address .ensures), search needs)
+returns c = (
+  simp (
+    c .before .before .before .match .keys1,
+    c .before .before .if1 .taken,
+    c .before .if2 .taken,
+    c .address .ensures,
+  ),
+  search needs,
+)
 
 returns-2 : tie.Need-returns-2
 unfolding keepsRules byForm
-returns-2 c = (simp (c .before .before .before .before .match .keys2, c .before .before .before .if3 .taken, c .before .before .if4 .taken, c .if5 .taken, ← c .before .span-of .ensures .0), search needs)
+returns-2 c = (
+  simp (
+    c .before .before .before .before .match .keys2,
+    c .before .before .before .if3 .taken,
+    c .before .before .if4 .taken,
+    c .if5 .taken,
+    ← c .before .span-of .ensures .0,
+  ),
+  search needs,
+)
 
 returns-3 : tie.Need-returns-3
 unfolding keepsRules byForm
@@ -22,25 +40,53 @@ returns-3 c = (simp (c .before .before .match .keys3, eq-eqb _ _ (c .before .if6
 
 returns-4 : tie.Need-returns-4
 unfolding keepsRules byForm
-returns-4 c = (simp (c .before .before .match .keys4, eq-eqb _ _ (c .before .if8 .taken), ← c .plus .ensures), search needs)
+returns-4 c =
+    (simp (c .before .before .match .keys4, eq-eqb _ _ (c .before .if8 .taken), ← c .plus .ensures), search needs)
 
 returns-5 : tie.Need-returns-5
 unfolding keepsRules byForm
 returns-5 c =
-    let i = c .before .before .before in
-    (simp (i .before .match .keys6, eq-eqb _ _ (i .if9 .taken), c .behind .ensures .same, c .before .read .ensures, c .before .before .plus4 .ensures, add-zero), c .behind .ensures .small)
+    let i = c .before .before .before in (
+      simp (
+        i .before .match .keys6,
+        eq-eqb _ _ (i .if9 .taken),
+        c .behind .ensures .same,
+        c .before .read .ensures,
+        c .before .before .plus4 .ensures,
+        add-zero,
+      ),
+      c .behind .ensures .small,
+    )
 
 returns-6 : tie.Need-returns-6
 unfolding keepsRules byForm
 returns-6 c =
-    let i = c .before .before in
-    (simp (i .before .before .match .keys8, ← i .before .can-step .ensures, i .if10 .taken, c .minus .ensures, c .before .length .ensures, mod-mod), search needs)
+    let i = c .before .before in (
+      simp (
+        i .before .before .match .keys8,
+        ← i .before .can-step .ensures,
+        i .if10 .taken,
+        c .minus .ensures,
+        c .before .length .ensures,
+        mod-mod,
+      ),
+      search needs,
+    )
 
 returns-7 : tie.Need-returns-7
 unfolding keepsRules byForm
 returns-7 c =
-    let i = c .before .before .before in
-    (simp (i .before .before .match .keys9, ← i .before .can-step2 .ensures, i .if11 .taken, c .address2 .ensures, c .before .plus6 .ensures, c .before .before .length2 .ensures), search needs)
+    let i = c .before .before .before in (
+      simp (
+        i .before .before .match .keys9,
+        ← i .before .can-step2 .ensures,
+        i .if11 .taken,
+        c .address2 .ensures,
+        c .before .plus6 .ensures,
+        c .before .before .length2 .ensures,
+      ),
+      search needs,
+    )
 
 returns-8 : tie.Need-returns-8
 unfolding keepsRules byForm
@@ -74,7 +120,17 @@ returns-11 c = (simp (c .before .match .keys4, ne-eqb _ _ (c .if8 .left)), searc
 
 returns-12 : tie.Need-returns-12
 unfolding keepsRules byForm
-returns-12 c = (simp (c .before .before .before .match .keys5, c .plus3 .ensures, c .before .scaled .ensures, c .before .before .plus2 .ensures, mod-add-mod, add-mod-mod), search needs)
+returns-12 c = (
+  simp (
+    c .before .before .before .match .keys5,
+    c .plus3 .ensures,
+    c .before .scaled .ensures,
+    c .before .before .plus2 .ensures,
+    mod-add-mod,
+    add-mod-mod,
+  ),
+  search needs,
+)
 
 returns-13 : tie.Need-returns-13
 unfolding keepsRules byForm
@@ -82,7 +138,17 @@ returns-13 c = (simp (c .before .match .keys6, ne-eqb _ _ (c .if9 .left)), searc
 
 returns-14 : tie.Need-returns-14
 unfolding keepsRules byForm
-returns-14 c = (simp (c .before .before .before .before .match .keys7, c .behind2 .ensures .same, c .before .scaled2 .ensures, c .before .before .read2 .ensures, c .before .before .before .plus5 .ensures, add-mod-mod), c .behind2 .ensures .small)
+returns-14 c = (
+  simp (
+    c .before .before .before .before .match .keys7,
+    c .behind2 .ensures .same,
+    c .before .scaled2 .ensures,
+    c .before .before .read2 .ensures,
+    c .before .before .before .plus5 .ensures,
+    add-mod-mod,
+  ),
+  c .behind2 .ensures .small,
+)
 
 returns-15 : tie.Need-returns-15
 unfolding keepsRules byForm
@@ -96,8 +162,23 @@ returns-17 : tie.Need-returns-17
 unfolding keepsRules byForm
 returns-17 c =
     let not = c .match .rest in
-    let above = no-form (c .before .before .before .before .args .form) (not .0 .0 .0 .0 .0 .0 .0 .0 .1) (not .0 .0 .0 .0 .0 .0 .0 .1) (not .0 .0 .0 .0 .0 .0 .1) (not .0 .0 .0 .0 .0 .1) (not .0 .0 .0 .0 .1) (not .0 .0 .0 .1) (not .0 .0 .1) (not .0 .1) (not .1) in
-    (simp (ne-eqb _ _ (not .0 .0 .0 .0 .0 .0 .0 .0 .1), ne-eqb _ _ (not .0 .0 .0 .0 .0 .0 .0 .1), ne-eqb _ _ (not .0 .0 .0 .0 .0 .0 .1), ne-eqb _ _ (not .0 .0 .0 .0 .0 .1), ne-eqb _ _ (not .0 .0 .0 .0 .1), ne-eqb _ _ (not .0 .0 .0 .1), ne-eqb _ _ (not .0 .0 .1), lt-leb _ 8 above), search needs)
+    let above = no-form (c .before .before .before .before .args .form) (not .0 .0 .0 .0 .0 .0 .0 .0 .1)
+    (not .0 .0 .0 .0 .0 .0 .0 .1) (not .0 .0 .0 .0 .0 .0 .1) (not .0 .0 .0 .0 .0 .1) (not .0 .0 .0 .0 .1)
+    (not .0 .0 .0 .1) (not .0 .0 .1) (not .0 .1) (not .1) in (
+      simp (
+        ne-eqb _ _ (not .0 .0 .0 .0 .0 .0 .0 .0 .1),
+        ne-eqb _ _ (not .0 .0 .0 .0 .0 .0 .0 .1),
+        ne-eqb _ _
+            (not .0 .0 .0 .0 .0 .0 .1),
+        ne-eqb _ _ (not .0 .0 .0 .0 .0 .1),
+        ne-eqb _ _ (not .0 .0 .0 .0 .1),
+        ne-eqb _ _
+            (not .0 .0 .0 .1),
+        ne-eqb _ _ (not .0 .0 .1),
+        lt-leb _ 8 above,
+      ),
+      search needs,
+    )
 
 pub by-form-spec : {M : Type 1} → statement M
 by-form-spec =

@@ -1,4 +1,5 @@
--- `extend` is right: a byte with its highest bit set stands for 256 less, and a word with it set for 2 ^ 32 less.
+-- `extend` is right: a byte with its highest bit set stands for 256 less, and a word with it set
+-- for 2 ^ 32 less.
 use borrow.Author.Needs.{needs}
 use native.Mathlib.Omega.{arith}
 use Prim.Native.Nat.{_%_}

@@ -1,4 +1,5 @@
--- `pack` is right: registers, other words and the pending set's two bytes, one after the other, fill the row.
+-- `pack` is right: registers, other words and the pending set's two bytes, one after the other,
+-- fill the row.
 use Prim.Native.Nat.{ℕ, _+_, _/_, _%_}
 use mathlib.Core.Path.{_≡_, refl, sym, _∙_}
 use mathlib.Core.List.{List, [], _∷_, _++_, append-nil}

@@ -1,4 +1,5 @@
--- `with_level` is right: a pending level stays so; else its bit is added, which carries nothing over, so the sum fits.
+-- `with_level` is right: a pending level stays so; else its bit is added, which carries nothing
+-- over, so the sum fits.
 use Prim.Native.Nat.{ℕ, _+_, _*_, _%_, _^_, _≤_, _<_}
 use mathlib.Core.Path.{_≡_, _∙_}
 use native.Mathlib.Nat.{one-mul}

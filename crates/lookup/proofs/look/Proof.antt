@@ -1,4 +1,5 @@
--- `look` is right: the test of the status picks the view of its mode, and in kernel mode the test of the address is that view.
+-- `look` is right: the test of the status picks the view of its mode, and in kernel mode the test
+-- of the address is that view.
 use borrow.Author.Tests.{le-ltb, lt-ltb}
 use borrow.Author.Needs.{needs}
 use Rattle.machine.specs.Map.{viewBy, unmapped}
@@ -14,7 +15,8 @@ real-requires c κs = le-ltb _ _ (c .before .before .if1 .left)
 
 returns-2 : tie.Need-returns-2
 unfolding viewBy unmapped
-returns-2 c = simp (c .real .ensures, lt-ltb _ _ (c .before .if2 .taken), le-ltb _ _ (c .before .before .before .if1 .left))
+returns-2 c =
+    simp (c .real .ensures, lt-ltb _ _ (c .before .if2 .taken), le-ltb _ _ (c .before .before .before .if1 .left))
 
 returns-3 : tie.Need-returns-3
 unfolding viewBy unmapped

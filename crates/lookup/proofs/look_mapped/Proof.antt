@@ -1,6 +1,8 @@
--- `look_mapped` is right: it tries 8, 9, 10 and 11 in their order, and each way out is one case of the definition.
+-- `look_mapped` is right: it tries 8, 9, 10 and 11 in their order, and each way out is one case of
+-- the definition.
 use borrow.Author.Needs.{needs}
-use Rattle.lookup.proofs.Cases.{mapped-8, mapped-9, mapped-10, mapped-11, mapped-fetch, mapped-read, mapped-write}
+use Rattle.lookup.proofs.Cases.{mapped-8, mapped-9, mapped-10, mapped-11, mapped-fetch, mapped-read}
+use Rattle.lookup.proofs.Cases.{mapped-write}
 use Rattle.lookup.proofs.look_mapped.Statement.{statement}
 use Rattle.lookup.proofs.look_mapped.Tie as tie
 

@@ -12,4 +12,5 @@ returns c =
 
 pub midesk-request-spec : {M : Type 1} → statement M
 midesk-request-spec =
-    tie.close (tie.spec (λ c κs. search needs) (λ c κs. search needs) (λ c κs. search needs) (λ c κs. search needs) returns)
+    tie.close (tie.spec (λ c κs. search needs) (λ c κs. search needs) (λ c κs. search needs)
+    (λ c κs. search needs) returns)

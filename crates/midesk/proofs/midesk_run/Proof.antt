@@ -1,4 +1,5 @@
--- `midesk_run` is right: the bytes are unpacked for the call, and its desk is packed; the steps are the reply's.
+-- `midesk_run` is right: the bytes are unpacked for the call, and its desk is packed; the steps are
+-- the reply's.
 use borrow.Author.Needs.{needs}
 use Rattle.midesk.specs.Exports.{runLeft, runCall}
 use Rattle.midesk.proofs.midesk_run.Statement.{statement}
@@ -13,4 +14,5 @@ returns c =
 pub midesk-run-spec : {M : Type 1} → statement M
 midesk-run-spec =
     tie.close
-    (tie.spec (λ c κs. search needs) (λ c κs. search needs) (λ c κs. search needs) (λ c κs. search needs) (λ c. search needs) returns)
+    (tie.spec (λ c κs. search needs) (λ c κs. search needs) (λ c κs. search needs) (λ c κs. search needs)
+    (λ c. search needs) returns)

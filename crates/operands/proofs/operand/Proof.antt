@@ -6,11 +6,26 @@ use Rattle.operands.proofs.operand.Statement.{statement}
 use Rattle.operands.proofs.operand.Tie as tie
 
 by-form-requires : tie.Need-by-form-requires
-by-form-requires c κs = (c .before .before .before .before .before .before .before .before .pre .0, omega (arith, rw (c .before .before .before .f .given .1) at (c .before .before .before .before .before .fields .ensures .1)))
+by-form-requires c κs = (
+  c .before .before .before .before .before .before .before .before .pre .0,
+  omega (
+    arith,
+    rw (c .before .before .before .f .given .1)
+        at (c .before .before .before .before .before .fields .ensures .1),
+  ),
+)
 
 returns : tie.Need-returns
 unfolding operandAt
-returns c = (simp (← c .by-form .ensures .0, ← c .before .before .plus .ensures, c .before .before .before .before .f .given .1, ← c .before .before .before .before .before .before .fields .ensures .0), c .by-form .ensures .1)
+returns c = (
+  simp (
+    ← c .by-form .ensures .0,
+    ← c .before .before .plus .ensures,
+    c .before .before .before .before .f .given .1,
+    ← c .before .before .before .before .before .before .fields .ensures .0,
+  ),
+  c .by-form .ensures .1,
+)
 
 returns-2 : tie.Need-returns-2
 unfolding operandAt

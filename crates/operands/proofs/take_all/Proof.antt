@@ -11,7 +11,8 @@ use Rattle.operands.proofs.take_all.Statement.{statement}
 use Rattle.operands.proofs.take_all.Tie as tie
 
 abbrev Inv-loop : tie.InvT-loop
-Inv-loop mem regs₀ status map start found rules first₀ second₀ target₀ place₀ count rest₀ regs first second target place rest =
+Inv-loop mem regs₀ status map start found rules first₀ second₀ target₀ place₀ count rest₀ regs first second target
+    place rest =
     Left
     (viewBy status map mem)
     place
@@ -22,7 +23,8 @@ Inv-loop mem regs₀ status map start found rules first₀ second₀ target₀ p
     × SmallTarget target
 
 abbrev μ-loop : tie.MeasureT-loop
-μ-loop mem regs₀ status map start found rules first₀ second₀ target₀ place₀ count rest₀ regs first second target place rest =
+μ-loop mem regs₀ status map start found rules first₀ second₀ target₀ place₀ count rest₀ regs first second target
+    place rest =
     count + 1 - place
 
 loop-holds : tie.Need-loop-holds Inv-loop μ-loop
@@ -32,8 +34,12 @@ returns : tie.Need-returns Inv-loop μ-loop
 returns c =
     let t = c .before .before .before in
     let o = t .before .before in
-    let s = o .before .before in
-    (next-alarm _ _ _ _ _ _ (s .before .before .before .loop .inv .0) (s .before .before .loop-test .taken) _ (s .before .size-in .ensures) _ (s .role-in .ensures) (o .operand .result) (o .operand .last .1 .0) (o .operand .ensures .0) _ (t .take .ensures .0) _ _ (c .before .t2 .given .1), search needs)
+    let s = o .before .before in (
+      next-alarm _ _ _ _ _ _ (s .before .before .before .loop .inv .0) (s .before .before .loop-test .taken) _
+          (s .before .size-in .ensures) _ (s .role-in .ensures) (o .operand .result) (o .operand .last .1 .0)
+          (o .operand .ensures .0) _ (t .take .ensures .0) _ _ (c .before .t2 .given .1),
+      search needs,
+    )
 
 loop-again : tie.Need-loop-again Inv-loop μ-loop
 unfolding withTaken
@@ -41,8 +47,13 @@ loop-again c =
     let t = c .before .before .before .before .before in
     let o = t .before .before in
     let s = o .before .before in
-    let got = c .before .before .before .t .given .1 in
-    (rw (c .before .chosen .ensures, c .chosen2 .ensures) (next-left _ _ _ _ _ _ (s .before .before .before .loop .inv .0) (s .before .before .loop-test .taken) _ (s .before .size-in .ensures) _ (s .role-in .ensures) (o .operand .result) (o .operand .last .1 .0) (o .operand .ensures .0) _ (t .take .ensures .0) _ _ got), rw got at (t .take .ensures .1))
+    let got = c .before .before .before .t .given .1 in (
+      rw (c .before .chosen .ensures, c .chosen2 .ensures)
+          (next-left _ _ _ _ _ _ (s .before .before .before .loop .inv .0) (s .before .before .loop-test .taken) _
+          (s .before .size-in .ensures) _ (s .role-in .ensures) (o .operand .result) (o .operand .last .1 .0)
+          (o .operand .ensures .0) _ (t .take .ensures .0) _ _ got),
+      rw got at (t .take .ensures .1),
+    )
 
 returns-2 : tie.Need-returns-2 Inv-loop μ-loop
 returns-2 c = (none-left _ _ _ _ _ _ (c .before .loop .inv .0) (omega arith), c .before .loop .inv .1)

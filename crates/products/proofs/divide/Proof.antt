@@ -1,4 +1,5 @@
--- `divide` is right: the quotient of the magnitudes with the sign of the quotient, and V where that does not fit.
+-- `divide` is right: the quotient of the magnitudes with the sign of the quotient, and V where that
+-- does not fit.
 use borrow.Author.Needs.{needs}
 use native.Mathlib.Omega.{arith}
 use native.Mathlib.Nat.{div-le-self}

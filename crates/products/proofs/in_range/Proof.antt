@@ -1,4 +1,5 @@
--- `in_range` is right: of the two bounds, half the span, only the negative one is a number of the size.
+-- `in_range` is right: of the two bounds, half the span, only the negative one is a number of the
+-- size.
 use borrow.Author.Needs.{needs}
 use Rattle.products.proofs.in_range.Statement.{statement}
 use Rattle.products.proofs.in_range.Tie as tie

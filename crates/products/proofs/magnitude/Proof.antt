@@ -1,4 +1,5 @@
--- `magnitude` is right: a negative number is short of the span by its magnitude, which is half the span at most.
+-- `magnitude` is right: a negative number is short of the span by its magnitude, which is half the
+-- span at most.
 use borrow.Author.Needs.{needs}
 use native.Mathlib.Omega.{arith}
 use Prim.Native.Nat.{_-_, _≤_}

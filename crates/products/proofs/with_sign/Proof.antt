@@ -1,4 +1,5 @@
--- `with_sign` is right: 0 less the magnitude, modulo 2 ^ 32, has the last L bytes of the span less the magnitude.
+-- `with_sign` is right: 0 less the magnitude, modulo 2 ^ 32, has the last L bytes of the span less
+-- the magnitude.
 use borrow.Author.Needs.{needs}
 use native.Mathlib.Omega.{arith}
 use mathlib.Core.Path.{_∙_}

@@ -1,4 +1,5 @@
--- `read` is right: bytes that lie in one page lie side by side in memory, and the first byte's alarm is the answer; others are read byte by byte.
+-- `read` is right: bytes that lie in one page lie side by side in memory, and the first byte's
+-- alarm is the answer; others are read byte by byte.
 use mathlib.Core.Path.{_∙_, sym, ap}
 use native.Mathlib.Omega.{arith}
 use borrow.Author.Needs.{needs}
@@ -17,19 +18,22 @@ value-at-requires : tie.Need-value-at-requires
 value-at-requires c κs =
     let looked = c .before .before .before .before in
     let start = looked .before .before .before .before .before in
-    page-inside (look-found (c .before .before .s .given .1) (looked .look .ensures) (start .pre) (omega arith)) _ (omega (arith, length-bounds (start .args .size))) (omega arith)
+    page-inside (look-found (c .before .before .s .given .1) (looked .look .ensures) (start .pre) (omega arith)) _
+    (omega (arith, length-bounds (start .args .size))) (omega arith)
 
 returns : tie.Need-returns
 returns c =
     let looked = c .before .before .before .before .before in
-    let found = look-found (c .before .before .before .s .given .1) (looked .look .ensures) (looked .before .before .before .before .before .pre) (omega arith) in
+    let found = look-found (c .before .before .before .s .given .1) (looked .look .ensures)
+    (looked .before .before .before .before .before .pre) (omega arith) in
     ap got (c .value-at .ensures) ∙ sym (read-page found _ (omega arith))
 
 returns-2 : tie.Need-returns-2
 returns-2 c =
     let looked = c .before .before .before in
     let stopped = look-alarm (c .before .s2 .given .1) (looked .look .ensures) (omega arith) in
-    sym (read-alarm stopped _ _ (omega (arith, length-bounds (looked .before .before .before .before .before .args .size))))
+    sym (read-alarm stopped _ _
+    (omega (arith, length-bounds (looked .before .before .before .before .before .args .size))))
 
 read-bytewise-requires : tie.Need-read-bytewise-requires
 read-bytewise-requires c κs =
@@ -37,10 +41,14 @@ read-bytewise-requires c κs =
     (start .pre, omega (arith, length-bounds (start .args .size)))
 
 returns-3 : tie.Need-returns-3
-returns-3 c = rw (← c .before .before .before .before .before .before .length .ensures) (rw (c .before .w .given .1) at (c .before .before .before .read-bytewise .ensures .0))
+returns-3 c =
+    rw (← c .before .before .before .before .before .before .length .ensures)
+    (rw (c .before .w .given .1) at (c .before .before .before .read-bytewise .ensures .0))
 
 returns-4 : tie.Need-returns-4
-returns-4 c = rw (← c .before .before .before .before .before .before .length .ensures) (rw (c .before .w2 .given .1) at (c .before .before .before .read-bytewise .ensures .0))
+returns-4 c =
+    rw (← c .before .before .before .before .before .before .length .ensures)
+    (rw (c .before .w2 .given .1) at (c .before .before .before .read-bytewise .ensures .0))
 
 pub read-spec : {M : Type 1} → statement M
 read-spec =

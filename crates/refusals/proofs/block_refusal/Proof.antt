@@ -1,4 +1,5 @@
--- `block_refusal` is right: its tests are the definition's, in its order: the first that fails answers, none accepts.
+-- `block_refusal` is right: its tests are the definition's, in its order: the first that fails
+-- answers, none accepts.
 use borrow.Author.Needs.{needs}
 use Rattle.machine.specs.Calls.{firstRefused, freshRefusal}
 use Rattle.checks.proofs.Tests.{fails, holds}

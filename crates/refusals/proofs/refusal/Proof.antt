@@ -1,4 +1,5 @@
--- `refusal` is right: the blocks' answer comes first; where it accepts, numbers 4, 5 and 7 follow, as they are defined.
+-- `refusal` is right: the blocks' answer comes first; where it accepts, numbers 4, 5 and 7 follow,
+-- as they are defined.
 use mathlib.Core.Path.{_≡_, sym, _∙_}
 use mathlib.Core.List.{[], _∷_}
 use borrow.Author.Needs.{needs}

@@ -1,4 +1,5 @@
--- `kept_rest` is right for each size: the high part of the old number and the low part of the new one.
+-- `kept_rest` is right for each size: the high part of the old number and the low part of the new
+-- one.
 use native.Mathlib.Omega.{arith}
 use borrow.Author.Needs.{needs}
 use Rattle.machine.specs.Commands.{keptRest}

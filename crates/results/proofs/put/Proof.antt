@@ -1,4 +1,5 @@
--- `put` is right for each target: a register keeps its rest, and a store that ends gives the command's end.
+-- `put` is right for each target: a register keeps its rest, and a store that ends gives the
+-- command's end.
 use borrow.Author.Needs.{needs}
 use Rattle.machine.specs.Map.{viewBy, located, commit}
 use Rattle.machine.specs.Commands.{stored}
@@ -10,7 +11,9 @@ element-copy-out-kept-rest : tie.Need-element-copy-out-kept-rest
 element-copy-out-kept-rest c = rw (c .before .target .given .1) at (c .before .before .before .before .before .pre .1)
 
 element-write-regs : tie.Need-element-write-regs
-element-write-regs c = rw (c .before .before .before .target .given .1) at (c .before .before .before .before .before .before .before .pre .1)
+element-write-regs c =
+    rw (c .before .before .before .target .given .1)
+    at (c .before .before .before .before .before .before .before .pre .1)
 
 returns : tie.Need-returns
 unfolding stored located commit
@@ -18,14 +21,21 @@ returns c = rw (c .enum-told .given .1, c .before .before .with-flags .ensures)
 
 returns-2 : tie.Need-returns-2
 unfolding stored located commit
-returns-2 c = rw (c .before .before .before .target .given .1, c .kept-rest .ensures, c .before .before .before .before .before .with-flags .ensures)
+returns-2 c =
+    rw (
+      c .before .before .before .target .given .1,
+      c .kept-rest .ensures,
+      c .before .before .before .before .before .with-flags .ensures,
+    )
 
 returns-3 : tie.Need-returns-3
 unfolding stored
 returns-3 c =
     let a = c .before .before .before .before .before .before .before .before .before .before .args in
     rw (c .before .before .before .before .before .before .target2 .given .1)
-    (stored-end (a .status) (a .mem .now) (viewBy (a .status) (a .map) (a .mem .now)) _ _ _ _ (rw (c .before .before .before .before .before .before .before .before .with-flags .ensures) at (c .ended .ensures)) (c .before .before .before .store .ensures))
+    (stored-end (a .status) (a .mem .now) (viewBy (a .status) (a .map) (a .mem .now)) _ _ _ _
+    (rw (c .before .before .before .before .before .before .before .before .with-flags .ensures)
+    at (c .ended .ensures)) (c .before .before .before .store .ensures))
 
 pub put-spec : {M : Type 1} → statement M
 put-spec =

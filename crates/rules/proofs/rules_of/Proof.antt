@@ -1,4 +1,5 @@
--- `rules_of` is right: each number of the table reads as its byte's rules, and a byte past the table is unknown.
+-- `rules_of` is right: each number of the table reads as its byte's rules, and a byte past the
+-- table is unknown.
 use Prim.Native.Nat.{ℕ, _≤_, _<_}
 use mathlib.Core.Path.{_≡_, refl}
 use mathlib.Core.Bool.{true}

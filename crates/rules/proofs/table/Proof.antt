@@ -1,4 +1,5 @@
--- `table` is right: the constant table is the table of command bytes, each byte's rules as one number.
+-- `table` is right: the constant table is the table of command bytes, each byte's rules as one
+-- number.
 use mathlib.Core.Path.{refl}
 use Rattle.machine.specs.Code.{table, knownIn, known}
 use Rattle.rules.specs.Rules.{numbersFrom, tableOf}

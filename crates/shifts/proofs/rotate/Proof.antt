@@ -1,4 +1,5 @@
--- `rotate` is right: the upper half of the word twice over, after n times to the left, is the word rotated.
+-- `rotate` is right: the upper half of the word twice over, after n times to the left, is the word
+-- rotated.
 use borrow.Author.Needs.{needs}
 use mathlib.Core.Path.{sym, _∙_}
 use Rattle.machine.proofs.Shifts.{rotated-is}

@@ -1,4 +1,5 @@
--- `shift_right` is right: a word that is not negative goes to the right, and of a negative one its complement.
+-- `shift_right` is right: a word that is not negative goes to the right, and of a negative one its
+-- complement.
 use borrow.Author.Needs.{needs}
 use native.Mathlib.Omega.{arith}
 use mathlib.Core.Path.{_≡_, sym, _∙_}

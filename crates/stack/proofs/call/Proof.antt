@@ -1,4 +1,5 @@
--- `call` is right: R15 goes to the stack, whose pointer is lowered, and a store that ends gives the command's end.
+-- `call` is right: R15 goes to the stack, whose pointer is lowered, and a store that ends gives the
+-- command's end.
 use borrow.Author.Needs.{needs}
 use Rattle.machine.specs.State.{flagsOf}
 use Rattle.machine.specs.Map.{viewBy}
@@ -14,7 +15,9 @@ returns c =
     let stored = c .before .before .before in
     let sp = c .before .before .before .before .before .before .minus .ensures in
     rw sp
-    (stored-end (a .status) (a .mem .now) (viewBy (a .status) (a .map) (a .mem .now)) (called (a .a) (a .regs .now) (flagsOf (a .status))) (stored .store .last .0) (stored .store .result) (c .ended .result) (rw same-status (c .ended .ensures)) (rw sp at (stored .store .ensures)))
+    (stored-end (a .status) (a .mem .now) (viewBy (a .status) (a .map) (a .mem .now))
+    (called (a .a) (a .regs .now) (flagsOf (a .status))) (stored .store .last .0) (stored .store .result)
+    (c .ended .result) (rw same-status (c .ended .ensures)) (rw sp at (stored .store .ensures)))
 
 pub call-spec : {M : Type 1} → statement M
 call-spec =

@@ -1,4 +1,5 @@
--- `push` is right: the row of words goes to the addresses from SP lowered by 60 on, and a store that ends gives the command's end.
+-- `push` is right: the row of words goes to the addresses from SP lowered by 60 on, and a store
+-- that ends gives the command's end.
 use borrow.Author.Needs.{needs}
 use Rattle.machine.specs.State.{reg, flagsOf}
 use Rattle.machine.specs.Map.{viewBy}
@@ -13,7 +14,16 @@ returns c =
     let stored = c .before .before .before in
     let low = c .before .before .before .before .before .before .minus2 .ensures in
     rw (low, pushed-all (reg (a .regs .now) 14) (a .regs .now) (flagsOf (a .status)))
-    (stored-end (a .status) (a .mem .now) (viewBy (a .status) (a .map) (a .mem .now)) _ (stored .store-bytes .last .0) (stored .store-bytes .result) (c .ended .result) (rw same-status (c .ended .ensures)) (rw (low, c .before .before .before .before .before .before .before .stacked .ensures, c .before .before .before .before .before .before .before .before .minus .ensures, row-bytes) at (stored .store-bytes .ensures)))
+    (stored-end (a .status) (a .mem .now) (viewBy (a .status) (a .map) (a .mem .now)) _
+    (stored .store-bytes .last .0) (stored .store-bytes .result) (c .ended .result)
+    (rw same-status (c .ended .ensures))
+    (rw (
+      low,
+      c .before .before .before .before .before .before .before .stacked .ensures,
+      c .before .before .before .before .before .before .before .before .minus .ensures,
+      row-bytes,
+    )
+    at (stored .store-bytes .ensures)))
 
 pub push-spec : {M : Type 1} → statement M
 push-spec =

@@ -1,4 +1,5 @@
--- `ret` is right: the word at SP goes to R15 and SP is raised; where its read alarms, so does the command.
+-- `ret` is right: the word at SP goes to R15 and SP is raised; where its read alarms, so does the
+-- command.
 use borrow.Author.Needs.{needs}
 use Rattle.machine.specs.Map.{located, commit}
 use Rattle.machine.specs.Commands.{returned}
@@ -9,7 +10,14 @@ use Rattle.stack.proofs.ret.Tie as tie
 
 returns : tie.Need-returns
 unfolding returned located commit
-returns c = rw (read-virtual, ← c .before .before .before .before .read .ensures, c .before .before .w .given .1, same-status, c .plus .ensures)
+returns c =
+    rw (
+      read-virtual,
+      ← c .before .before .before .before .read .ensures,
+      c .before .before .w .given .1,
+      same-status,
+      c .plus .ensures,
+    )
 
 returns-2 : tie.Need-returns-2
 unfolding returned located commit

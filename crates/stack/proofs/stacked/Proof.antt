@@ -1,4 +1,5 @@
--- `stacked` is right: each turn puts one register into its place of the row; then the row's bytes fill the array.
+-- `stacked` is right: each turn puts one register into its place of the row; then the row's bytes
+-- fill the array.
 use Prim.Native.Nat.{_≤_, _<_, _-_, _+_}
 use mathlib.Core.Path.{_≡_, refl, sym, _∙_}
 use mathlib.Core.List.{[], _∷_, _++_}
@@ -35,7 +36,8 @@ returns c =
     let a = turn .before .args in
     let all : l .i ≡ 14 = omega arith in
     let row : l .row ≡ registersFrom 14 0 (a .regs .now) ++ a .sp ∷ [] = rw all at (l .inv .2) in
-    rw (c .before .put-words .ensures, row) (row-filled (registersFrom 14 0 (a .regs .now) ++ a .sp ∷ []) _ (omega (arith, row-length (a .regs .now) (a .sp))))
+    rw (c .before .put-words .ensures, row)
+    (row-filled (registersFrom 14 0 (a .regs .now) ++ a .sp ∷ []) _ (omega (arith, row-length (a .regs .now) (a .sp))))
 
 pub stacked-spec : {M : Type 1} → statement M
 stacked-spec =

@@ -11,7 +11,9 @@ value-to-requires : tie.Need-value-to-requires
 value-to-requires c κs = omega (arith, length-bounds (c .before .args .size))
 
 returns : tie.Need-returns
-returns c = rw (c .before .value-to .ensures) (bytes-first _ _ _ (omega (arith, length-bounds (c .before .before .before .args .size))))
+returns c =
+    rw (c .before .value-to .ensures)
+    (bytes-first _ _ _ (omega (arith, length-bounds (c .before .before .before .args .size))))
 
 pub bytes-of-spec : {M : Type 1} → statement M
 bytes-of-spec = tie.close (tie.spec (λ c. search needs) value-to-requires returns)

@@ -1,4 +1,5 @@
--- `store` is right: bytes that go to one page go side by side in memory, and the first byte's alarm is the answer; others are stored byte by byte.
+-- `store` is right: bytes that go to one page go side by side in memory, and the first byte's alarm
+-- is the answer; others are stored byte by byte.
 use mathlib.Core.Path.{_∙_}
 use native.Mathlib.Omega.{arith}
 use borrow.Author.Needs.{needs}
@@ -18,15 +19,21 @@ value-to-requires : tie.Need-value-to-requires
 value-to-requires c κs =
     let looked = c .before .before .before .before .before in
     let start = looked .before .before .before .before .before .before in
-    page-inside (look-found (c .before .before .before .s .given .1) (looked .look .ensures) (start .pre) (omega arith)) _ (omega (arith, length-bounds (start .args .size))) (omega arith)
+    page-inside (look-found (c .before .before .before .s .given .1) (looked .look .ensures) (start .pre)
+    (omega arith)) _ (omega (arith, length-bounds (start .args .size))) (omega arith)
 
 returns : tie.Need-returns
 returns c =
     let looked = c .before .before .before .before .before .before .before .before in
     let start = looked .before .before .before .before .before .before in
-    let found = look-found (c .before .before .before .before .before .before .s .given .1) (looked .look .ensures) (start .pre) (omega arith) in
+    let found = look-found (c .before .before .before .before .before .before .s .given .1) (looked .look .ensures)
+    (start .pre) (omega arith) in
     let long = bytes-length (lengthOf (start .args .size)) (start .args .value) in
-    rw (located-page found (bytesOf (lengthOf (start .args .size)) (start .args .value)) (omega arith), commit-from, c .before .before .value-to .ensures)
+    rw (
+      located-page found (bytesOf (lengthOf (start .args .size)) (start .args .value)) (omega arith),
+      commit-from,
+      c .before .before .value-to .ensures,
+    )
 
 returns-2 : tie.Need-returns-2
 returns-2 c =
@@ -34,7 +41,8 @@ returns-2 c =
     let start = looked .before .before .before .before .before .before in
     let stopped = look-alarm (c .before .s2 .given .1) (looked .look .ensures) (omega arith) in
     let long = bytes-length (lengthOf (start .args .size)) (start .args .value) in
-    rw (located-alarm stopped (bytesOf (lengthOf (start .args .size)) (start .args .value)) (omega (arith, length-bounds (start .args .size))))
+    rw (located-alarm stopped (bytesOf (lengthOf (start .args .size)) (start .args .value))
+    (omega (arith, length-bounds (start .args .size))))
 
 store-bytes-requires : tie.Need-store-bytes-requires
 store-bytes-requires c κs =
@@ -42,7 +50,12 @@ store-bytes-requires c κs =
     (start .pre, omega (arith, length-bounds (start .args .size)))
 
 returns-3 : tie.Need-returns-3
-returns-3 c = c .before .before .store-bytes .ensures ∙ rw (c .before .before .before .before .before .before .before .before .length .ensures, c .before .before .before .before .before .bytes-of .ensures)
+returns-3 c =
+    c .before .before .store-bytes .ensures
+    ∙ rw (
+      c .before .before .before .before .before .before .before .before .length .ensures,
+      c .before .before .before .before .before .bytes-of .ensures,
+    )
 
 pub store-spec : {M : Type 1} → statement M
 store-spec =

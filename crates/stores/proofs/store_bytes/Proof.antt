@@ -1,4 +1,5 @@
--- `store_bytes` is right: the first loop finds a place for each byte or stops at the first alarm with nothing written, and the second writes what is left to write.
+-- `store_bytes` is right: the first loop finds a place for each byte or stops at the first alarm
+-- with nothing written, and the second writes what is left to write.
 use Prim.Native.Nat.{ℕ, _≤_, _<_, _-_}
 use mathlib.Core.Path.{ap, _≡_, refl, sym, _∙_}
 use native.Mathlib.Nat.{sub-zero}
@@ -9,7 +10,8 @@ use Rattle.machine.proofs.Pages.{found-inside}
 use Rattle.machine.specs.Map.{viewBy, commit}
 use Rattle.stores.specs.Answers.{wrote}
 use Rattle.lookup.proofs.Lookups.{look-found, look-alarm}
-use Rattle.stores.proofs.Storing.{all-located, one-stopped, one-placed, one-written, all-written, writesTo, Placed}
+use Rattle.stores.proofs.Storing.{all-located, one-stopped, one-placed, one-written, all-written, writesTo}
+use Rattle.stores.proofs.Storing.{Placed}
 use Rattle.stores.proofs.store_bytes.Statement.{statement}
 use Rattle.stores.proofs.store_bytes.Tie as tie
 
@@ -22,7 +24,8 @@ abbrev μ-loop : tie.MeasureT-loop
 
 abbrev Inv-loop2 : tie.InvT-loop2
 Inv-loop2 mem₀ status bytes n source places i j₀ mem j =
-    (j ≤ n) × (length mem ≡ length mem₀) × (commit (writesTo (n - j) j places bytes) mem ≡ commit (writesTo n 0 places bytes) mem₀)
+    (j ≤ n) × (length mem ≡ length mem₀)
+    × (commit (writesTo (n - j) j places bytes) mem ≡ commit (writesTo n 0 places bytes) mem₀)
 
 abbrev μ-loop2 : tie.MeasureT-loop2
 μ-loop2 mem₀ status bytes n source places i j₀ mem j = n - j
@@ -37,7 +40,9 @@ returns c =
     let turn = test .before .loop in
     let a = test .before .before .before .before .args in
     let stopped = look-alarm (c .before .s2 .given .1) (looked .look .ensures) (omega arith) in
-    rw (one-stopped (viewBy (a .status) (a .map) (a .mem .now)) (a .mem .now) (a .x .0) (turn .places) (a .bytes .now) (a .n) (turn .i) _ _ _ (test .loop-test .taken) (omega arith) (turn .inv .1) (looked .before .before .wrapping-add-u32 .ensures) (stopped .miss))
+    rw (one-stopped (viewBy (a .status) (a .map) (a .mem .now)) (a .mem .now) (a .x .0) (turn .places)
+    (a .bytes .now) (a .n) (turn .i) _ _ _ (test .loop-test .taken) (omega arith) (turn .inv .1)
+    (looked .before .before .wrapping-add-u32 .ensures) (stopped .miss))
 
 loop-again : tie.Need-loop-again Inv-loop μ-loop Inv-loop2 μ-loop2
 loop-again c =
@@ -47,7 +52,8 @@ loop-again c =
     let a = start .args in
     let found = look-found (c .before .s .given .1) (looked .look .ensures) (start .pre .0) (omega arith) in (
       omega arith,
-      one-placed (viewBy (a .status) (a .map) (a .mem .now)) (a .mem .now) (a .x .0) (turn .places) (turn .i) _ _ (omega arith) (turn .inv .1) (looked .before .before .wrapping-add-u32 .ensures) (found .hit),
+      one-placed (viewBy (a .status) (a .map) (a .mem .now)) (a .mem .now) (a .x .0) (turn .places) (turn .i) _ _
+          (omega arith) (turn .inv .1) (looked .before .before .wrapping-add-u32 .ensures) (found .hit),
       simp length-set (turn .inv .2),
     )
 
@@ -76,7 +82,8 @@ returns-2 : tie.Need-returns-2 Inv-loop μ-loop Inv-loop2 μ-loop2
 returns-2 c =
     let turn = c .before .before .before .loop in
     let a = c .before .before .before .before .before .before .args in
-    rw (all-located (viewBy (a .status) (a .map) (a .mem .now)) (a .mem .now) (a .x .0) (turn .places) (a .bytes .now) (a .n) (omega arith) (λ k h. turn .inv .1 k (omega arith)))
+    rw (all-located (viewBy (a .status) (a .map) (a .mem .now)) (a .mem .now) (a .x .0) (turn .places)
+    (a .bytes .now) (a .n) (omega arith) (λ k h. turn .inv .1 k (omega arith)))
     (ap wrote (sym (all-written _ _ _ _ _ (c .loop2-test .left)) ∙ c .before .loop2 .inv .2))
 
 pub store-bytes-spec : {M : Type 1} → statement M

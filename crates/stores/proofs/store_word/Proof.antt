@@ -1,4 +1,5 @@
--- `store_word` is right: a word that goes to one page goes side by side in memory, and the first byte's alarm is the answer; others are stored by `store`.
+-- `store_word` is right: a word that goes to one page goes side by side in memory, and the first
+-- byte's alarm is the answer; others are stored by `store`.
 use native.Mathlib.Omega.{arith}
 use borrow.Author.Needs.{needs}
 use Rattle.machine.specs.Words.{bytesOf}
@@ -12,15 +13,21 @@ use Rattle.stores.proofs.store_word.Tie as tie
 value-to-requires : tie.Need-value-to-requires
 value-to-requires c κs =
     let looked = c .before .before .before .before .before in
-    page-inside (look-found (c .before .before .before .s .given .1) (looked .look .ensures) (looked .before .before .before .before .before .pre) (omega arith)) 4 (omega arith) (omega arith)
+    page-inside (look-found (c .before .before .before .s .given .1) (looked .look .ensures)
+    (looked .before .before .before .before .before .pre) (omega arith)) 4 (omega arith) (omega arith)
 
 returns : tie.Need-returns
 returns c =
     let looked = c .before .before .before .before .before .before .before .before in
     let start = looked .before .before .before .before .before in
-    let found = look-found (c .before .before .before .before .before .before .s .given .1) (looked .look .ensures) (start .pre) (omega arith) in
+    let found = look-found (c .before .before .before .before .before .before .s .given .1) (looked .look .ensures)
+    (start .pre) (omega arith) in
     let long = bytes-length 4 (start .args .value) in
-    rw (located-page found (bytesOf 4 (start .args .value)) (omega arith), commit-from, c .before .before .value-to .ensures)
+    rw (
+      located-page found (bytesOf 4 (start .args .value)) (omega arith),
+      commit-from,
+      c .before .before .value-to .ensures,
+    )
 
 returns-2 : tie.Need-returns-2
 returns-2 c =

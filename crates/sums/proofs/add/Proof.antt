@@ -1,4 +1,5 @@
--- `add` is right: the sum by its last L bytes and its carry, and V where the biased sum leaves the range.
+-- `add` is right: the sum by its last L bytes and its carry, and V where the biased sum leaves the
+-- range.
 use borrow.Author.Needs.{needs}
 use Prim.Native.Nat.{_+_}
 use Rattle.machine.specs.Words.{lengthOf}

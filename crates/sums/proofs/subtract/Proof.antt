@@ -1,4 +1,5 @@
--- `subtract` is right: the difference by its last L bytes and its borrow, and V where the biased one leaves the range.
+-- `subtract` is right: the difference by its last L bytes and its borrow, and V where the biased
+-- one leaves the range.
 use borrow.Author.Needs.{needs}
 use native.Mathlib.Omega.{arith}
 use Rattle.machine.specs.Words.{lengthOf}

@@ -1,4 +1,5 @@
--- `main` is safe: the part lent to the desk is as long as `covering` says, which is at most the memory.
+-- `main` is safe: the part lent to the desk is as long as `covering` says, which is at most the
+-- memory.
 use native.Mathlib.Omega.{arith}
 use borrow.Author.Needs.{needs}
 use lib.ListN.{length-take}

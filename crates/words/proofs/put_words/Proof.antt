@@ -1,4 +1,5 @@
--- `put_words` is right: before word i, what is left to write, on the bytes as they are, gives what all of it gives on the first ones.
+-- `put_words` is right: before word i, what is left to write, on the bytes as they are, gives what
+-- all of it gives on the first ones.
 use Prim.Native.Nat.{_≤_, _-_, _+_, _*_}
 use mathlib.Core.Path.{_≡_, refl, sym, _∙_}
 use native.Mathlib.Nat.{add-zero}
@@ -26,7 +27,8 @@ loop-again c =
     let a = b .before .before .before .args in (
       omega arith,
       d .value-to .kept .0 ∙ b .loop .inv .1,
-      rw (d .value-to .ensures) (sym (sets-next (b .loop .i) (a .words .now) (b .loop .bytes) (a .at) (omega arith)) ∙ b .loop .inv .2),
+      rw (d .value-to .ensures)
+          (sym (sets-next (b .loop .i) (a .words .now) (b .loop .bytes) (a .at) (omega arith)) ∙ b .loop .inv .2),
     )
 
 returns : tie.Need-returns Inv-loop μ-loop

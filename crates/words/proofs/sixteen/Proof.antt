@@ -1,4 +1,5 @@
--- `sixteen` is right: the first i words of the array are the first i words; each turn adds the next of both.
+-- `sixteen` is right: the first i words of the array are the first i words; each turn adds the next
+-- of both.
 use Prim.Native.Nat.{_≤_, _<_, _-_}
 use mathlib.Core.Path.{_≡_, refl, sym, _∙_}
 use native.Mathlib.Numerals.{add-one}
@@ -23,8 +24,11 @@ loop-holds c = (search needs, search needs, unfold wordsAt in refl)
 loop-again : tie.Need-loop-again Inv-loop μ-loop
 loop-again c =
     let b = c .before .before in
-    let below : b .loop .i < length (b .loop .words) = omega arith in
-    (omega arith, simp length-set (b .loop .inv .1), rw (add-one, take-suc-set, words-more, b .loop .inv .2, c .word .ensures))
+    let below : b .loop .i < length (b .loop .words) = omega arith in (
+      omega arith,
+      simp length-set (b .loop .inv .1),
+      rw (add-one, take-suc-set, words-more, b .loop .inv .2, c .word .ensures),
+    )
 
 returns : tie.Need-returns Inv-loop μ-loop
 returns c =
