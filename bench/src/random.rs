@@ -3,8 +3,7 @@
 use crate::contender::{Contender, CONTENDERS};
 use crate::plain;
 use crate::state::{State, KERNEL, RUNNING};
-use model::fault::Probe;
-use model::memory::{lookup, Access, Virtual};
+use model::map::{lookup, Access, Virtual};
 use model::rng::Rng;
 
 const LENGTH: usize = 8192;
@@ -105,7 +104,7 @@ fn case(rng: &mut Rng) -> (Vec<u8>, State) {
 
 /// The command byte that a step of this desk would fetch, if it is to be had.
 fn next_byte(memory: &[u8], state: &State) -> Option<u8> {
-    let place = lookup(&Probe::right(), &state.to_model(), memory, Virtual(state.registers[15]), Access::Read).ok()?;
+    let place = lookup(&state.to_model(), memory, Virtual(state.registers[15]), Access::Read).ok()?;
     memory.get(place.0 as usize).copied()
 }
 

@@ -14,7 +14,6 @@ pub mod faults;
 pub mod flag_table;
 pub mod gen;
 pub mod map;
-mod names;
 pub mod notes;
 pub mod operand;
 pub mod rng;
@@ -25,8 +24,6 @@ pub mod table;
 pub mod trace;
 pub mod words;
 pub mod work;
-
-pub use names::{fault, memory};
 
 #[cfg(test)]
 mod tests;
