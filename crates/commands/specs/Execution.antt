@@ -17,13 +17,13 @@ use Rattle.results.specs.Ends.{End, commandDone, systemCalled, halted, resumed,
 abbrev pub userEnd : ℕ → Memory → View → OrAlarm (Completion SystemCall) → End
 userEnd s m v (got (done d)) = doneEnd s m v (got d)
 userEnd s m v (got (ofMode c)) = systemCalled (c .argument) (c .registers) m
-userEnd s m v (alarm n x) = alarmed n x m
+userEnd s m v (alarm k x) = alarmed k x m
 
 abbrev pub kernelEnd : ℕ → Memory → View → OrAlarm (Completion KernelEffect) → End
 kernelEnd s m v (got (done d)) = doneEnd s m v (got d)
 kernelEnd s m v (got (ofMode (halts r))) = halted r m
 kernelEnd s m v (got (ofMode (resumes a))) = resumed a m
-kernelEnd s m v (alarm n x) = alarmed n x m
+kernelEnd s m v (alarm k x) = alarmed k x m
 
 -- the command at R15, in the mode that the status tells
 unfoldable pub execOf : ℕ → Map → Registers → Memory → End
@@ -45,4 +45,4 @@ actionEnd s m v r x t action.Return = doneEnd s m v (returnedDone v r (flagsOf s
 actionEnd s m v r x t action.System = systemCalled x r m
 actionEnd s m v r x t action.Halt = halted r m
 actionEnd s m v r x t action.Resume = resumed (record { 0 = x }) m
-actionEnd s m v r x t (action.Alarm a n) = alarmed n a m
+actionEnd s m v r x t (action.Alarm a k) = alarmed k a m

@@ -31,7 +31,7 @@ ResumesInKernelMode s (out.Done t) = Unit {0}
 ResumesInKernelMode s (out.System x) = Unit {0}
 ResumesInKernelMode s out.Halt = Unit {0}
 ResumesInKernelMode s (out.Resume a) = userMode s ≡ false
-ResumesInKernelMode s (out.Alarm x n) = Unit {0}
+ResumesInKernelMode s (out.Alarm x k) = Unit {0}
 
 abbrev pub stepped : StepReply → Memory → Stepped
 stepped r m = record { reply = r; memory = m }
@@ -52,9 +52,9 @@ enteredBy d m c = shown (concluded d (systemBlockOf d m) c) m
 
 -- an alarm enters the kernel in user mode and stops the desk in kernel mode
 abbrev pub alarmedBy : Desk → Memory → Alarm → ℕ → Stepped
-alarmedBy d m n x =
-    pick (userMode (d .status)) (enteredBy d m (enters (alarmCause n) (d .registers) x (d .pending)))
-    (shown (stop (alarmNumber n) d) m)
+alarmedBy d m k x =
+    pick (userMode (d .status)) (enteredBy d m (enters (alarmCause k) (d .registers) x (d .pending)))
+    (shown (stop (alarmNumber k) d) m)
 
 -- a command's end, of desk d over memory m
 unfoldable pub concludedEnd : Desk → Memory → End → Stepped
@@ -63,4 +63,4 @@ concludedEnd d m (commandDone r s n) =
 concludedEnd d m (systemCalled x r n) = enteredBy d m (enters 1 r x (d .pending))
 concludedEnd d m (halted r n) = shown (halt r d) m
 concludedEnd d m (resumed x n) = shown (resume d m (realOf x)) m
-concludedEnd d m (alarmed n x k) = alarmedBy d m n x
+concludedEnd d m (alarmed k x n) = alarmedBy d m k x

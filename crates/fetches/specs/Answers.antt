@@ -16,11 +16,11 @@ use Rattle.fetches.specs.declared.OperandBytes.the-variants as operandBy
 -- a command byte, wherever it lies
 abbrev pub commandByteAs : CommandByte → OrAlarm ℕ
 commandByteAs (commandByte.Byte b a) = got b
-commandByteAs (commandByte.Alarm x n) = alarm n x
+commandByteAs (commandByte.Alarm x k) = alarm k x
 
 abbrev pub ByteOrAlarm : CommandByte → Type 0
 ByteOrAlarm (commandByte.Byte b a) = b < 256
-ByteOrAlarm (commandByte.Alarm x n) = Unit {0}
+ByteOrAlarm (commandByte.Alarm x k) = Unit {0}
 
 -- the fetch at address x finds place a of memory m
 pub record FetchedFrom (v : View) (m : Memory) (x : VirtualAddress) (a : RealAddress) : Type 0 where
@@ -28,11 +28,11 @@ pub record FetchedFrom (v : View) (m : Memory) (x : VirtualAddress) (a : RealAdd
 
 abbrev pub PlaceOrAlarm : View → Memory → VirtualAddress → CommandByte → Type 0
 PlaceOrAlarm v m x (commandByte.Byte b a) = FetchedFrom v m x a
-PlaceOrAlarm v m x (commandByte.Alarm y n) = Unit {0}
+PlaceOrAlarm v m x (commandByte.Alarm y k) = Unit {0}
 
 abbrev pub operandBytesAs : OperandBytes → OrAlarm Fields
 operandBytesAs (operandBytes.Fields f q z) = got (record { form = f; x = q / 16; y = q % 16; z = z })
-operandBytesAs (operandBytes.Alarm x n) = alarm n x
+operandBytesAs (operandBytes.Alarm x k) = alarm k x
 
 -- the six bytes from place a of memory on
 abbrev pub operandBytesAt : Memory → ℕ → OperandBytes
@@ -41,4 +41,4 @@ operandBytesAt m a = operandBytes.Fields (byteAt m a) (byteAt m (a + 1)) (wordAt
 -- a register pair that was fetched is a byte
 abbrev pub PairOrAlarm : OperandBytes → Type 0
 PairOrAlarm (operandBytes.Fields f q z) = q < 256
-PairOrAlarm (operandBytes.Alarm x n) = Unit {0}
+PairOrAlarm (operandBytes.Alarm x k) = Unit {0}

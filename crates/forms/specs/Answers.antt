@@ -16,14 +16,14 @@ abbrev pub locationAs : Location → Registers → OrAlarm Operand
 locationAs (location.Immediate z) r = at (immediate z) r
 locationAs (location.Register x) r = at (register x) r
 locationAs (location.Memory a) r = at (memory a) r
-locationAs (location.Alarm x n) r = alarm n x
+locationAs (location.Alarm x k) r = alarm k x
 
 -- an operand that is a register is one of the sixteen
 abbrev pub SmallLocation : Location → Type 0
 SmallLocation (location.Immediate z) = Unit {0}
 SmallLocation (location.Register x) = x < 16
 SmallLocation (location.Memory a) = Unit {0}
-SmallLocation (location.Alarm x n) = Unit {0}
+SmallLocation (location.Alarm x k) = Unit {0}
 
 -- a target that is a register is one of the sixteen
 abbrev pub SmallTarget : Target → Type 0

@@ -23,7 +23,7 @@ pub record Fits (map : Map) (m : Memory) : Type 0 where
 -- a lookup in memory m
 abbrev pub lookupAs : Memory → Lookup → OrAlarm Found
 lookupAs m (lookup.At a) = got (foundAt m a)
-lookupAs m (lookup.Alarm x n) = alarm n (x .0)
+lookupAs m (lookup.Alarm x k) = alarm k (x .0)
 
 -- in every memory of whole frames, in either mode and for every reason: where the byte at start is
 -- found at that place, the byte at x is found at a

@@ -37,4 +37,4 @@ pub data OrAlarm (A : Type 0) : Type 0 where
 infixl 10 _>>=_
 abbrev pub _>>=_ : {A B : Type 0} → OrAlarm A → (A → OrAlarm B) → OrAlarm B
 got a >>= f = f a
-alarm n x >>= f = alarm n x
+alarm k x >>= f = alarm k x

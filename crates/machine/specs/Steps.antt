@@ -68,14 +68,14 @@ due (suc k) p l = pick (isPending p (suc k) && ltb l (suc k)) (suc k) (due k p l
 -- from the command's start
 unfoldable pub userWritten : Registers → ℕ → ℕ → Done → OrAlarm RealWrites → Plan
 userWritten r s p d (got ws) = continues (d .registers) (withFlags s (d .flags)) ws
-userWritten r s p d (alarm n x) = enters (alarmCause n) r x p
+userWritten r s p d (alarm k x) = enters (alarmCause k) r x p
 
 -- cause "1 for a system call (argument its value, saved R15 the next command)", "the alarm number
 -- otherwise (saved R15 the command's own address)"
 unfoldable pub ofUserCommand : Registers → ℕ → ℕ → View → OrAlarm (Completion SystemCall) → Plan
 ofUserCommand r s p v (got (done d)) = userWritten r s p d (located v (d .writes))
 ofUserCommand r s p v (got (ofMode c)) = enters 1 (c .registers) (c .argument) p
-ofUserCommand r s p v (alarm n x) = enters (alarmCause n) r x p
+ofUserCommand r s p v (alarm k x) = enters (alarmCause k) r x p
 
 -- "the highest pending level above the status level is entered and its pending bit cleared": cause
 -- "16 + level", "argument the level"
@@ -122,13 +122,13 @@ resume d m a =
 
 unfoldable pub kernelWritten : Desk → Done → OrAlarm RealWrites → Outcome
 kernelWritten d c (got ws) = completed (c .registers) (withFlags (d .status) (c .flags)) ws d
-kernelWritten d c (alarm n x) = stop (alarmNumber n) d
+kernelWritten d c (alarm k x) = stop (alarmNumber k) d
 
 unfoldable pub ofKernelCommand : Desk → Memory → View → OrAlarm (Completion KernelEffect) → Outcome
 ofKernelCommand d m v (got (done c)) = kernelWritten d c (located v (c .writes))
 ofKernelCommand d m v (got (ofMode (halts r))) = halt r d
 ofKernelCommand d m v (got (ofMode (resumes x))) = resume d m (realOf x)
-ofKernelCommand d m v (alarm n x) = stop (alarmNumber n) d
+ofKernelCommand d m v (alarm k x) = stop (alarmNumber k) d
 
 unfoldable pub kernelStep : Desk → View → Memory → Outcome
 kernelStep d v m = ofKernelCommand d m v (kernelCommand v (d .registers) (flagsOf (d .status)))

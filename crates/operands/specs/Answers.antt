@@ -27,11 +27,11 @@ takenFrom v place L k p = p >>= (λ o. takenBy v place L o k)
 
 abbrev pub takenAs : Taken → OrAlarm Given
 takenAs (takes.Got n t) = taken n t
-takenAs (takes.Alarm x n) = alarm n x
+takenAs (takes.Alarm x k) = alarm k x
 
 abbrev pub SmallTaken : Taken → Type 0
 SmallTaken (takes.Got n t) = SmallTarget t
-SmallTaken (takes.Alarm x n) = Unit {0}
+SmallTaken (takes.Alarm x k) = Unit {0}
 
 -- what a role takes from an operand that is there, over any registers and view
 pub record TakesFrom (t : Taken) (place : ℕ) (k : Role) (l : Location) : Type 0 where
@@ -55,8 +55,8 @@ pub record TakesMemory (t : Taken) (v : View) (L : ℕ) (k : Role) (a : VirtualA
 
 abbrev pub operandsAs : Operands → Registers → OrAlarm AllGiven
 operandsAs (operands.Ready a b t) r = got (record { first = a; second = b; target = t; registers = r })
-operandsAs (operands.Alarm x n) r = alarm n x
+operandsAs (operands.Alarm x k) r = alarm k x
 
 abbrev pub SmallOperands : Operands → Type 0
 SmallOperands (operands.Ready a b t) = SmallTarget t
-SmallOperands (operands.Alarm x n) = Unit {0}
+SmallOperands (operands.Alarm x k) = Unit {0}

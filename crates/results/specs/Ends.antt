@@ -30,12 +30,12 @@ outAs (out.Done s) r m = commandDone r s m
 outAs (out.System x) r m = systemCalled x r m
 outAs out.Halt r m = halted r m
 outAs (out.Resume a) r m = resumed a m
-outAs (out.Alarm x n) r m = alarmed n x m
+outAs (out.Alarm x k) r m = alarmed k x m
 
 -- a store that ended, with the registers r and the status s for its success
 abbrev pub afterStore : StoreEnd → Registers → ℕ → End
 afterStore (wrote m) r s = commandDone r s m
-afterStore (failed n x m) r s = alarmed n x m
+afterStore (failed k x m) r s = alarmed k x m
 
 -- a store's end as a command's, whatever the registers and the memory
 pub record AfterStore (o : Out) (t : Stored) (s : ℕ) : Type 0 where
@@ -45,11 +45,11 @@ pub record AfterStore (o : Out) (t : Stored) (s : ℕ) : Type 0 where
 
 abbrev pub writtenEnd : ℕ → Memory → Done → OrAlarm RealWrites → End
 writtenEnd s m d (got ws) = commandDone (d .registers) (withFlags s (d .flags)) (commit ws m)
-writtenEnd s m d (alarm n x) = alarmed n x m
+writtenEnd s m d (alarm k x) = alarmed k x m
 
 abbrev pub doneEnd : ℕ → Memory → View → OrAlarm Done → End
 doneEnd s m v (got d) = writtenEnd s m d (located v (d .writes))
-doneEnd s m v (alarm n x) = alarmed n x m
+doneEnd s m v (alarm k x) = alarmed k x m
 
 -- the end of a command that sees the memory by status and map
 abbrev pub endIn : ℕ → Map → Memory → (View → OrAlarm Done) → End

@@ -16,11 +16,11 @@ pub data StoreEnd : Type 0 where
 
 abbrev pub storedAs : Stored → Memory → StoreEnd
 storedAs stored.Done m = wrote m
-storedAs (stored.Alarm x n) m = failed n x m
+storedAs (stored.Alarm x k) m = failed k x m
 
 abbrev pub storeEndOf : Memory → OrAlarm RealWrites → StoreEnd
 storeEndOf m (got ws) = wrote (commit ws m)
-storeEndOf m (alarm n x) = failed n x m
+storeEndOf m (alarm k x) = failed k x m
 
 -- some bytes to the addresses from x on, by status and map
 abbrev pub storedIn : ℕ → Map → Memory → VirtualAddress → List ℕ → StoreEnd
