@@ -5,7 +5,7 @@ pub mod answers;
 pub mod difference;
 pub mod fields;
 pub mod memory;
-pub mod state;
+pub mod snapshot;
 
 use fields::part;
 use fields::word_at;

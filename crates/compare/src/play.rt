@@ -11,10 +11,10 @@ use cases::fields::half_at;
 use cases::fields::past;
 use cases::fields::word_at;
 use cases::memory::fill;
-use cases::state::Words;
-use cases::state::changed;
-use cases::state::desk_of;
-use cases::state::no_words;
+use cases::snapshot::Words;
+use cases::snapshot::changed;
+use cases::snapshot::desk_of;
+use cases::snapshot::no_words;
 use machine::RealAddress;
 use machine::VirtualAddress;
 

@@ -21,11 +21,11 @@ pub fn fresh(mem: &[u8], system: RealAddress, control: RealAddress, start: Virtu
     match blocks {
         Answer::Refused(k) => Reply {
             answer: Answer::Refused(k),
-            desk: Desk::zero(k.number()),
+            desk: state::zero(k.number()),
         },
         Answer::Accepted => Reply {
             answer: Answer::Accepted,
-            desk: Desk::fresh(system, control, start),
+            desk: state::fresh(system, control, start),
         },
     }
 }

@@ -21,7 +21,7 @@ fn stop(d: Desk, n: u32) -> StepReply
     ensures { λ r. ⌜ r ≡ replyOf (stopOf n d) ⌝ }
 {
     let registers = d.registers;
-    let desk = d.with(registers, d.status, d.pending, Mark::Stopped(n));
+    let desk = state::with(d, registers, d.status, d.pending, Mark::Stopped(n));
     StepReply {
         answer: StepAnswer::Stopped(n),
         desk,
@@ -61,7 +61,7 @@ fn enter(
     let mut work = registers;
     work[15] = start;
     let mark = d.mark;
-    let desk = d.with(work, status, pending, mark);
+    let desk = state::with(d, work, status, pending, mark);
     StepReply {
         answer: StepAnswer::Entered(cause),
         desk,
@@ -93,7 +93,7 @@ fn resume(d: Desk, mem: &[u8], a: RealAddress) -> StepReply
         return stop_for(d, Alarm::Operand);
     }
     let registers = words::sixteen(mem, at);
-    let desk = d.resumed(registers, status, map, a);
+    let desk = state::resumed(d, registers, status, map, a);
     StepReply {
         answer: StepAnswer::Done,
         desk,
@@ -118,7 +118,7 @@ fn done(d: Desk, registers: [u32; 16], status: u32) -> StepReply
         { answer = StepAnswer.Done; desk = deskWith d registers status (d .pending) (d .mark) } ⌝ }
 {
     let mark = d.mark;
-    let desk = d.with(registers, status, d.pending, mark);
+    let desk = state::with(d, registers, status, d.pending, mark);
     StepReply {
         answer: StepAnswer::Done,
         desk,
@@ -135,7 +135,7 @@ pub fn conclude(d: Desk, mem: &mut [u8], work: [u32; 16], out: Out) -> StepReply
         Out::Done(s) => done(d, work, s),
         Out::System(x) => enter(d, mem, 1, work, x, d.pending),
         Out::Halt => {
-            let desk = d.with(work, d.status, d.pending, Mark::Stopped(0));
+            let desk = state::with(d, work, d.status, d.pending, Mark::Stopped(0));
             StepReply {
                 answer: StepAnswer::Stopped(0),
                 desk,

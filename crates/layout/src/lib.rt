@@ -49,7 +49,7 @@ pub fn unpack(b: [u8; STATE_BYTES]) -> Desk
     let control = RealAddress(words::word(&b, 80));
     let mark = word_mark(words::word(&b, 84));
     let pending = wide(b[88]) * 256 + wide(b[89]);
-    Desk::new(registers, status, pending, map, system, control, mark)
+    state::new(registers, status, pending, map, system, control, mark)
 }
 
 // The 90 bytes of a desk.

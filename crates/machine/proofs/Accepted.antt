@@ -172,14 +172,14 @@ module _ (d : Desk) (n : ℕ) (p : Passes d n) where
       → Lasts n (concluded d block (userWritten (d .registers) (d .status) (d .pending) c t))
   unfolding userWritten
   written-lasts block c (got ws) = unfold concluded in go-lasts (c .registers) (c .flags) ws
-  written-lasts block c (alarm k x) = enter-lasts block (alarmCause k) (d .registers) x (d .pending) level-0
+  written-lasts block c (alarm k x) = enter-lasts block _ _ _ _ level-0
 
   command-lasts : (block : Memory) (v : View) (t : OrAlarm (Completion SystemCall))
       → Lasts n (concluded d block (ofUserCommand (d .registers) (d .status) (d .pending) v t))
   unfolding ofUserCommand
   command-lasts block v (got (done c)) = written-lasts block c (located v (c .writes))
-  command-lasts block v (got (ofMode c)) = enter-lasts block 1 (c .registers) (c .argument) (d .pending) level-0
-  command-lasts block v (alarm k x) = enter-lasts block (alarmCause k) (d .registers) x (d .pending) level-0
+  command-lasts block v (got (ofMode c)) = enter-lasts block _ _ _ _ level-0
+  command-lasts block v (alarm k x) = enter-lasts block _ _ _ _ level-0
 
   interrupt-lasts : (block : Memory) (k : ℕ) (c : Plan) → Lasts n (concluded d block c)
       → Lasts n (concluded d block (interrupted k (d .registers) (d .pending) c))

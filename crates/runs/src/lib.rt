@@ -15,7 +15,7 @@ use results::Out;
 fn running(d: Desk, registers: [u32; 16], status: u32) -> Desk
     ensures { λ r. ⌜ r ≡ deskWith d registers status (d .pending) Mark.Running ⌝ }
 {
-    d.with(registers, status, d.pending, Mark::Running)
+    state::with(d, registers, status, d.pending, Mark::Running)
 }
 
 // What some steps came to: their number, the desk and, where one step was asked for, what it came

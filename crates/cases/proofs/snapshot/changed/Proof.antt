@@ -4,8 +4,8 @@ use mathlib.Core.Logic.{⊎-elim}
 use mathlib.Core.Path.{_≡_, _∙_, ap}
 use borrow.Author.Needs.{needs}
 use lib.ListN.{length, length-set}
-use Rattle.cases.proofs.state.changed.Statement.{statement}
-use Rattle.cases.proofs.state.changed.Tie as tie
+use Rattle.cases.proofs.snapshot.changed.Statement.{statement}
+use Rattle.cases.proofs.snapshot.changed.Tie as tie
 
 abbrev Inv-loop : tie.InvT-loop
 Inv-loop s from words₀ mask₀ at₀ i₀ words mask at i = (i ≤ 32) × (length words ≡ 32)

@@ -73,7 +73,7 @@ pub fn desk_of(w: Words) -> Desk {
         length: w[19],
     };
     let pending = (w[17] % 65536) as u16;
-    Desk::new(
+    state::new(
         registers,
         w[16],
         pending,

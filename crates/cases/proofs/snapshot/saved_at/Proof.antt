@@ -3,8 +3,8 @@ use Prim.Native.Nat.{_≤_, _-_}
 use mathlib.Core.Path.{_≡_}
 use borrow.Author.Needs.{needs}
 use lib.ListN.{length}
-use Rattle.cases.proofs.state.saved_at.Statement.{statement}
-use Rattle.cases.proofs.state.saved_at.Tie as tie
+use Rattle.cases.proofs.snapshot.saved_at.Statement.{statement}
+use Rattle.cases.proofs.snapshot.saved_at.Tie as tie
 
 abbrev Inv-loop : tie.InvT-loop
 Inv-loop mem control words₀ at₀ i₀ words at i = (i ≤ 18) × (length words ≡ 32)

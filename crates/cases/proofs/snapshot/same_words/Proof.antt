@@ -1,8 +1,8 @@
 -- `same_words` is safe and ends: i rises to n, at most 32.
 use Prim.Native.Nat.{_≤_, _-_}
 use borrow.Author.Needs.{needs}
-use Rattle.cases.proofs.state.same_words.Statement.{statement}
-use Rattle.cases.proofs.state.same_words.Tie as tie
+use Rattle.cases.proofs.snapshot.same_words.Statement.{statement}
+use Rattle.cases.proofs.snapshot.same_words.Tie as tie
 
 abbrev Inv-loop : tie.InvT-loop
 Inv-loop n a b i₀ i = i ≤ n

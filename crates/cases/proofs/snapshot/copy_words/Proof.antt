@@ -3,8 +3,8 @@ use Prim.Native.Nat.{_≤_, _-_}
 use mathlib.Core.Path.{_≡_}
 use borrow.Author.Needs.{needs}
 use lib.ListN.{length}
-use Rattle.cases.proofs.state.copy_words.Statement.{statement}
-use Rattle.cases.proofs.state.copy_words.Tie as tie
+use Rattle.cases.proofs.snapshot.copy_words.Statement.{statement}
+use Rattle.cases.proofs.snapshot.copy_words.Tie as tie
 
 abbrev Inv-loop : tie.InvT-loop
 Inv-loop to₀ from i₀ to i = (i ≤ length to₀) × (length to ≡ length to₀)
