@@ -28,7 +28,7 @@ use Rattle.machine.specs.Steps.{Event, quiet, entered, stopped, Outcome,
 -- ---- Numbers 1 to 7
 
 abbrev pub refusalNumber : Refusal → ℕ
-refusalNumber refusal.MemoryLength = 1
+refusalNumber refusal.Length = 1
 refusalNumber refusal.SystemBlock = 2
 refusalNumber refusal.ControlBlock = 3
 refusalNumber refusal.Map = 4
@@ -74,7 +74,7 @@ noMap = record { base = record { 0 = 0 }; length = 0 }
 
 unfoldable pub freshRefusal : ℕ → RealAddress → RealAddress → Answer
 freshRefusal n system control = firstRefused
-    ((passes1 n, refusal.MemoryLength) ∷ (passes2 system n, refusal.SystemBlock)
+    ((passes1 n, refusal.Length) ∷ (passes2 system n, refusal.SystemBlock)
     ∷ (passes3 control n, refusal.ControlBlock) ∷ [])
 
 abbrev pub freshDesk : RealAddress → RealAddress → VirtualAddress → Desk
@@ -111,7 +111,7 @@ freshOf n system control start = freshReply (freshRefusal n system control) (fre
 
 unfoldable pub stepRefusal : Desk → ℕ → Answer
 stepRefusal d n = firstRefused
-    ((passes1 n, refusal.MemoryLength)
+    ((passes1 n, refusal.Length)
     ∷ (passes2 (d .system) n, refusal.SystemBlock)
     ∷ (passes3 (d .control) n, refusal.ControlBlock)
     ∷ (passes4 d n, refusal.Map)

@@ -94,7 +94,7 @@ pub struct Desk {
 
 // Why a call was refused: numbers 1 to 7.
 pub enum Refusal {
-    MemoryLength,
+    Length,
     SystemBlock,
     ControlBlock,
     Map,
@@ -181,7 +181,7 @@ impl Refusal {
         ensures { λ r. ⌜ r ≡ refusalNumber self ⌝ }
     {
         match self {
-            Refusal::MemoryLength => 1,
+            Refusal::Length => 1,
             Refusal::SystemBlock => 2,
             Refusal::ControlBlock => 3,
             Refusal::Map => 4,

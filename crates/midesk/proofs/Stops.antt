@@ -61,7 +61,7 @@ small-alarm alarms.Operand = omega arith
 small-alarm alarms.Divide = omega arith
 
 small-number : (k : Refusal) → refusalNumber k ≤ 16
-small-number refusal.MemoryLength = omega arith
+small-number refusal.Length = omega arith
 small-number refusal.SystemBlock = omega arith
 small-number refusal.ControlBlock = omega arith
 small-number refusal.Map = omega arith

@@ -13,7 +13,7 @@ pub fn block_refusal(n: usize, system: RealAddress, control: RealAddress) -> Ans
 {
     let allowed = checks::length_allowed(n);
     if !allowed {
-        return Answer::Refused(Refusal::MemoryLength);
+        return Answer::Refused(Refusal::Length);
     }
     let system_fits = checks::block_fits(system, machine::SYSTEM_BLOCK_BYTES, n);
     if !system_fits {

@@ -100,7 +100,7 @@ fn main() {
     let n = io::read_full(STDIN_FILENO, &mut mem);
     let mut more = [0u8; 1];
     if io::read_full(STDIN_FILENO, &mut more) != 0 {
-        print_refusal(machine::Refusal::MemoryLength.number());
+        print_refusal(machine::Refusal::Length.number());
         return;
     }
     let length = covering(n);

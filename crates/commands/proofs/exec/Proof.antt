@@ -80,24 +80,7 @@ pub exec-spec : {M : Type 1} → statement M
 exec-spec =
     tie.close
     (tie.spec
-    (λ c. search needs)
-    (λ c κs. search needs)
-    (λ c. search needs)
-    (λ c. search needs)
-    (λ c κs. search needs)
-    (λ c. search needs)
-    returns
-    (λ c κs. search needs)
-    (λ c. search needs)
-    rules-of-requires
-    take-all-requires
-    (λ c. search needs)
-    (λ c. search needs)
-    (λ c κs. search needs)
-    finish-requires
-    (λ c. search needs)
-    returns-2
-    (λ c. search needs)
-    returns-3
-    (λ c. search needs)
-    returns-4)
+    (λ c. search needs) (λ c κs. search needs) (λ c. search needs) (λ c. search needs) (λ c κs. search needs)
+    (λ c. search needs) returns (λ c κs. search needs) (λ c. search needs) rules-of-requires take-all-requires
+    (λ c. search needs) (λ c. search needs) (λ c κs. search needs) finish-requires (λ c. search needs)
+    returns-2 (λ c. search needs) returns-3 (λ c. search needs) returns-4)

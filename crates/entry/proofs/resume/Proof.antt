@@ -90,22 +90,7 @@ pub resume-spec : {M : Type 1} → statement M
 resume-spec =
     tie.close
     (tie.spec
-    (λ c κs. search needs)
-    (λ c κs. search needs)
-    returns
-    (λ c. search needs)
-    (λ c. search needs)
-    word-requires
-    (λ c. search needs)
-    word-requires-2
-    (λ c κs. search needs)
-    (λ c κs. search needs)
-    returns-2
-    (λ c. search needs)
-    word-requires-3
-    (λ c κs. search needs)
-    (λ c κs. search needs)
-    returns-3
-    sixteen-requires
-    (λ c κs. search needs)
-    returns-4)
+    (λ c κs. search needs) (λ c κs. search needs) returns (λ c. search needs) (λ c. search needs)
+    word-requires (λ c. search needs) word-requires-2 (λ c κs. search needs) (λ c κs. search needs) returns-2
+    (λ c. search needs) word-requires-3 (λ c κs. search needs) (λ c κs. search needs) returns-3
+    sixteen-requires (λ c κs. search needs) returns-4)

@@ -34,11 +34,5 @@ pub fields-anew-spec : {M : Type 1} → statement M
 fields-anew-spec =
     tie.close
     (tie.spec
-    (λ c κs. search needs)
-    (λ c. search needs)
-    fields-at-requires
-    returns
-    (λ c. search needs)
-    returns-2
-    (λ c κs. search needs)
-    (λ c. search needs))
+    (λ c κs. search needs) (λ c. search needs) fields-at-requires returns (λ c. search needs) returns-2
+    (λ c κs. search needs) (λ c. search needs))

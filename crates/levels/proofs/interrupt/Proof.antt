@@ -22,7 +22,4 @@ pub interrupt-spec : {M : Type 1} → statement M
 interrupt-spec =
     tie.close
     (tie.spec
-    returns
-    (λ c κs. search needs)
-    returns-2
-    returns-3)
+    returns (λ c κs. search needs) returns-2 returns-3)

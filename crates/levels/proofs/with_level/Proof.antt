@@ -33,9 +33,5 @@ pub with-level-spec : {M : Type 1} → statement M
 with-level-spec =
     tie.close
     (tie.spec
-    (λ c. search needs)
-    (λ c. search needs)
-    returns
-    (λ c. omega (arith, fits c))
-    (λ c. omega (arith, fits c))
+    (λ c. search needs) (λ c. search needs) returns (λ c. omega (arith, fits c)) (λ c. omega (arith, fits c))
     returns-2)

@@ -12,7 +12,4 @@ pub without-level-spec : {M : Type 1} → statement M
 without-level-spec =
     tie.close
     (tie.spec
-    (λ c. search needs)
-    (λ c. search needs)
-    (λ c. search needs)
-    returns)
+    (λ c. search needs) (λ c. search needs) (λ c. search needs) returns)

@@ -54,18 +54,6 @@ pub read-spec : {M : Type 1} → statement M
 read-spec =
     tie.close
     (tie.spec
-    (λ c κs. search needs)
-    add-if1
-    (λ c κs. search needs)
-    (λ c. search needs)
-    (λ c. search needs)
-    value-at-requires
-    returns
-    (λ c. search needs)
-    returns-2
-    (λ c. search needs)
-    read-bytewise-requires
-    (λ c. search needs)
-    (λ c. search needs)
-    returns-3
-    returns-4)
+    (λ c κs. search needs) add-if1 (λ c κs. search needs) (λ c. search needs) (λ c. search needs)
+    value-at-requires returns (λ c. search needs) returns-2 (λ c. search needs) read-bytewise-requires
+    (λ c. search needs) (λ c. search needs) returns-3 returns-4)

@@ -78,21 +78,6 @@ pub read-bytewise-spec : {M : Type 1} → statement M
 read-bytewise-spec =
     tie.close
     (tie.spec
-    Inv-loop
-    μ-loop
-    loop-holds
-    (λ c. search needs)
-    (λ c κs. search needs)
-    (λ c κs. search needs)
-    (λ c. search needs)
-    cast-at
-    mul-acc
-    shared-slice-read-wide
-    (λ c κs. search needs)
-    add-acc
-    (λ c. search needs)
-    returns
-    (λ c. search needs)
-    (λ c. search needs)
-    loop-again
-    returns-2)
+    Inv-loop μ-loop loop-holds (λ c. search needs) (λ c κs. search needs) (λ c κs. search needs)
+    (λ c. search needs) cast-at mul-acc shared-slice-read-wide (λ c κs. search needs) add-acc
+    (λ c. search needs) returns (λ c. search needs) (λ c. search needs) loop-again returns-2)

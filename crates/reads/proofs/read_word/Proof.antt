@@ -42,15 +42,5 @@ pub read-word-spec : {M : Type 1} → statement M
 read-word-spec =
     tie.close
     (tie.spec
-    (λ c κs. search needs)
-    (λ c. search needs)
-    (λ c. search needs)
-    word-requires
-    returns
-    (λ c. search needs)
-    returns-2
-    (λ c κs. search needs)
-    (λ c. search needs)
-    (λ c. search needs)
-    returns-3
-    returns-4)
+    (λ c κs. search needs) (λ c. search needs) (λ c. search needs) word-requires returns (λ c. search needs)
+    returns-2 (λ c κs. search needs) (λ c. search needs) (λ c. search needs) returns-3 returns-4)

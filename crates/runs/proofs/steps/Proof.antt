@@ -107,28 +107,8 @@ pub steps-spec : {M : Type 1} → statement M
 steps-spec =
     tie.close
     (tie.spec
-    Inv-loop
-    μ-loop
-    (λ c κs. search needs)
-    loop-holds
-    (λ c. search needs)
-    (λ c κs. search needs)
-    (λ c κs. search needs)
-    enter-level-requires
-    exec-requires
-    (λ c. search needs)
-    (λ c. search needs)
-    loop-again
-    (λ c κs. search needs)
-    conclude-requires
-    (λ c. search needs)
-    (λ c. search needs)
-    loop-again-2
-    (λ c. search needs)
-    (λ c κs. search needs)
-    same-length
-    returns
-    (λ c κs. search needs)
-    (λ c κs. search needs)
-    same-length-2
-    returns-2)
+    Inv-loop μ-loop (λ c κs. search needs) loop-holds (λ c. search needs) (λ c κs. search needs)
+    (λ c κs. search needs) enter-level-requires exec-requires (λ c. search needs) (λ c. search needs)
+    loop-again (λ c κs. search needs) conclude-requires (λ c. search needs) (λ c. search needs) loop-again-2
+    (λ c. search needs) (λ c κs. search needs) same-length returns (λ c κs. search needs)
+    (λ c κs. search needs) same-length-2 returns-2)

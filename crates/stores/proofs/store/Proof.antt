@@ -61,19 +61,6 @@ pub store-spec : {M : Type 1} → statement M
 store-spec =
     tie.close
     (tie.spec
-    (λ c κs. search needs)
-    add-if1
-    (λ c κs. search needs)
-    (λ c. search needs)
-    (λ c. search needs)
-    value-to-requires
-    (λ c. search needs)
-    returns
-    (λ c. search needs)
-    (λ c. search needs)
-    returns-2
-    (λ c κs. search needs)
-    (λ c. search needs)
-    store-bytes-requires
-    (λ c. search needs)
-    returns-3)
+    (λ c κs. search needs) add-if1 (λ c κs. search needs) (λ c. search needs) (λ c. search needs)
+    value-to-requires (λ c. search needs) returns (λ c. search needs) (λ c. search needs) returns-2
+    (λ c κs. search needs) (λ c. search needs) store-bytes-requires (λ c. search needs) returns-3)

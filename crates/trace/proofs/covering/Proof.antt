@@ -7,14 +7,8 @@ use Rattle.trace.proofs.covering.Tie as tie
 returns : tie.Need-returns
 returns c = (simp (le-leb _ _ (c .if1 .taken)), search needs)
 
-add-result : tie.Need-add-result
-add-result c = search needs
-
-mul-result : tie.Need-mul-result
-mul-result c = search needs
-
 returns-2 : tie.Need-returns-2
 returns-2 c = (simp (lt-leb _ _ (c .if1 .left)), search needs)
 
 pub covering-spec : {M : Type 1} → statement M
-covering-spec = tie.close (tie.spec returns add-result mul-result returns-2)
+covering-spec = tie.close (tie.spec returns (λ c. search needs) (λ c. search needs) returns-2)

@@ -43,19 +43,7 @@ pub value-at-spec : {M : Type 1} → statement M
 value-at-spec =
     tie.close
     (tie.spec
-    (λ c. search needs)
-    shared-slice-read-wide
-    (λ c κs. search needs)
-    (λ c. search needs)
-    shared-slice-read-wide-2
-    (λ c κs. search needs)
-    (λ c. search needs)
-    (λ c. search needs)
-    shared-slice-read-wide-3
-    (λ c κs. search needs)
-    (λ c. search needs)
-    (λ c. search needs)
-    word-requires
-    returns
-    returns-2
-    returns-3)
+    (λ c. search needs) shared-slice-read-wide (λ c κs. search needs) (λ c. search needs)
+    shared-slice-read-wide-2 (λ c κs. search needs) (λ c. search needs) (λ c. search needs)
+    shared-slice-read-wide-3 (λ c κs. search needs) (λ c. search needs) (λ c. search needs) word-requires
+    returns returns-2 returns-3)

@@ -41,30 +41,9 @@ pub value-to-spec : {M : Type 1} → statement M
 value-to-spec =
     tie.close
     (tie.spec
-    (λ c. search needs)
-    (λ c. search needs)
-    slice-write-bytes
-    (λ c. search needs)
-    (λ c. search needs)
-    slice-write-bytes-2
-    (λ c. search needs)
-    (λ c. search needs)
-    slice-write-bytes-3
-    (λ c. search needs)
-    (λ c. search needs)
-    slice-write-bytes-4
-    (λ c. search needs)
-    (λ c. search needs)
-    slice-write-bytes-5
-    (λ c. search needs)
-    (λ c. search needs)
-    slice-write-bytes-6
-    (λ c. search needs)
-    (λ c. search needs)
-    slice-write-bytes-7
-    (λ c. search needs)
-    returns
-    (λ c. search needs)
-    returns-2
-    (λ c. search needs)
+    (λ c. search needs) (λ c. search needs) slice-write-bytes (λ c. search needs) (λ c. search needs)
+    slice-write-bytes-2 (λ c. search needs) (λ c. search needs) slice-write-bytes-3 (λ c. search needs)
+    (λ c. search needs) slice-write-bytes-4 (λ c. search needs) (λ c. search needs) slice-write-bytes-5
+    (λ c. search needs) (λ c. search needs) slice-write-bytes-6 (λ c. search needs) (λ c. search needs)
+    slice-write-bytes-7 (λ c. search needs) returns (λ c. search needs) returns-2 (λ c. search needs)
     returns-3)
