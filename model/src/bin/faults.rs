@@ -2,7 +2,7 @@
 //! with 1 if a copy isn't told apart, or if the model itself differs from the file.
 //! `faults --check` only looks whether every edit in `faults/` applies.
 
-use model::faults::{copies, edits, of_model, Told};
+use model::faults::{copies, edits, of_model, Tally};
 use std::path::Path;
 
 fn main() {
@@ -19,7 +19,7 @@ fn main() {
     let told = copies::tell(&sources, &faults, cases).unwrap_or_else(|why| fail(&why));
     let mut missed = Vec::new();
     for (fault, _) in &faults {
-        let Told { cases, panics } = told.get(&fault.name).copied().unwrap_or_default();
+        let Tally { cases, panics } = told.get(&fault.name).copied().unwrap_or_default();
         let remark = if panics > 0 { format!(" ({panics} by a panic)") } else { String::new() };
         println!("{cases:5}  {}: {}{remark}", fault.name, fault.text);
         if cases == 0 {

@@ -5,7 +5,7 @@
 //! program, so that there are few to build.
 
 use super::edits::{folder, Fault, Sources, MODULES};
-use super::Told;
+use super::Tally;
 use std::collections::BTreeMap;
 use std::path::{Path, PathBuf};
 use std::process::Command;
@@ -100,7 +100,7 @@ fn build(at: &Path, sources: &Sources, faults: &[(Fault, Sources)]) -> Result<Ve
 }
 
 /// Runs a program of copies.
-fn run(program: &Path, cases: &Path) -> Result<Vec<(String, Told)>, String> {
+fn run(program: &Path, cases: &Path) -> Result<Vec<(String, Tally)>, String> {
     let answer =
         Command::new(program).arg(cases).output().map_err(|error| format!("{}: {error}", program.display()))?;
     if !answer.status.success() {
@@ -109,13 +109,13 @@ fn run(program: &Path, cases: &Path) -> Result<Vec<(String, Told)>, String> {
     let line = |line: &str| {
         let mut words = line.split(' ');
         let name = words.next()?.to_string();
-        Some((name, Told { cases: words.next()?.parse().ok()?, panics: words.next()?.parse().ok()? }))
+        Some((name, Tally { cases: words.next()?.parse().ok()?, panics: words.next()?.parse().ok()? }))
     };
     Ok(String::from_utf8_lossy(&answer.stdout).lines().filter_map(line).collect())
 }
 
 /// Builds all copies and plays the cases on them, by name.
-pub fn tell(sources: &Sources, faults: &[(Fault, Sources)], cases: &Path) -> Result<BTreeMap<String, Told>, String> {
+pub fn tell(sources: &Sources, faults: &[(Fault, Sources)], cases: &Path) -> Result<BTreeMap<String, Tally>, String> {
     let cases = std::fs::canonicalize(cases).map_err(|error| format!("{}: {error}", cases.display()))?;
     let left = Mutex::new(build(&folder().join("target/faults"), sources, faults)?);
     let answers = Mutex::new(Vec::new());

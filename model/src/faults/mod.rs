@@ -14,7 +14,7 @@ const STEPS: u32 = 5_000;
 
 /// How many cases a copy answers wrongly, and in how many of these it panics.
 #[derive(Clone, Copy, Default, Debug)]
-pub struct Told {
+pub struct Tally {
     pub cases: usize,
     pub panics: usize,
 }
@@ -38,8 +38,8 @@ fn differs(desk: &Desk, case: &Case, expected: &Expected) -> bool {
 }
 
 /// Plays all cases on a desk.
-fn told(desk: &Desk, cases: &[(Case, Expected)]) -> Told {
-    let mut told = Told::default();
+fn told(desk: &Desk, cases: &[(Case, Expected)]) -> Tally {
+    let mut told = Tally::default();
     for (case, expected) in cases {
         let answer = catch_unwind(AssertUnwindSafe(|| differs(desk, case, expected)));
         told.panics += usize::from(answer.is_err());
