@@ -28,7 +28,9 @@ alarmNumber alarms.Divide = 15
 abbrev pub alarmCause : Alarm → ℕ
 alarmCause a = alarmNumber a
 
--- the argument is a number
+-- "Arguments: 8 to 11 the byte's address, 12 and 13 the command byte, 14 the operand's place from
+-- 1, 15 zero." "For one byte 8 to 11 are tried in number order; between parts of a command the
+-- order of 'One step' rules."
 pub data OrAlarm (A : Type 0) : Type 0 where
   got : A → OrAlarm A
   alarm : Alarm → ℕ → OrAlarm A

@@ -28,12 +28,20 @@ use Rattle.machine.specs.Steps.{Event, quiet, entered, stopped, Outcome,
 -- ---- Numbers 1 to 7
 
 abbrev pub refusalNumber : Refusal → ℕ
+-- "The memory length is not allowed."
 refusalNumber refusal.Length = 1
+-- "The system block's address is no multiple of 4, or the block doesn't fit."
 refusalNumber refusal.SystemBlock = 2
+-- "The control block's address is no multiple of 4, or the block doesn't fit."
 refusalNumber refusal.ControlBlock = 3
+-- "The map base is no multiple of 4, or map base + 4 × map length is above the memory length (an
+-- empty map too)."
 refusalNumber refusal.Map = 4
+-- "Status has an undefined bit, or the pending set has level 0's bit."
 refusalNumber refusal.Status = 5
+-- "A requested level is 0 or above 15."
 refusalNumber refusal.Level = 6
+-- "A step or run was wanted of a stopped desk."
 refusalNumber refusal.Stopped = 7
 
 -- 0 for none
@@ -191,6 +199,7 @@ ran a k d m = record { reply = record { answer = a; steps = k; desk = d }; memor
 -- n steps more, after k. A step of a desk that was not refused is not refused either while the desk
 -- runs
 unfoldable pub stepsOf : ℕ → ℕ → Desk → Memory → Ran
+-- "0 steps on a running desk is allowed"
 stepsOf zero k d m = ran Accepted k d m
 stepsOf (suc n) k d m =
     pick (isRunning (d .mark)) (stepsOf n (suc k) ((stepOutcome d m) .desk) (commit ((stepOutcome d m) .writes) m))

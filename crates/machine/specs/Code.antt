@@ -72,12 +72,18 @@ three s = value s ∷ value s ∷ destination s ∷ []
 
 -- ---- The table
 
+-- "A command is one byte"
 -- one byte, or three from a first one on: "Add k = 0, 1, 2 for B, H, W where k stands"
 pub data Row : Type 0 where
   one : ℕ → Command → List Rule → Row
   sized : ℕ → (Size → Common) → (Size → List Rule) → Row
 
--- in the paper's order; "/" gives the three-operand byte
+-- "00h HALT, 01h PUSHR, 02h POPR, 03h system call (one W value), 05h RESUME (one address), 10h+k
+-- MOVE, 14h+k CLEAR, 18h+k MOVEN, 1Ch+k MOVEC, 20h MOVEA, 21h CONV, 28h+k/2Ch+k OR, 30h+k/34h+k
+-- ANDNOT, 38h+k/3Ch+k XOR, 40h+k/44h+k ADD, 48h+k/4Ch+k SUB, 50h+k/54h+k MULT, 58h+k/5Ch+k DIV,
+-- 60h SH, 61h ROT, 64h+k CMP, 70h JUMP, 71h JEQ (Z), 72h JNE, 73h JGT (neither N nor Z), 74h JGE
+-- (not N), 75h JLT (N), 76h JLE (N or Z), 77h JV, 78h JC, 79h CALL, 7Ah RET."; "CONV takes B, gives
+-- W". In the paper's order; "/" gives the three-operand byte
 unfoldable pub table : List Row
 table =
     one 0x00 (kernelOnly HALT) []

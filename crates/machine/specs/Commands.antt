@@ -1,6 +1,5 @@
--- Document 01, "One step": what one command does, from what it sees. "byte, mode, then each operand
--- left to right .., the stack bytes read, from SP upward, the operation, the bytes written". A
--- command sees memory through a view alone, the memory from its start.
+-- Document 01, "One step": what one command does, from what it sees. "Reads and map lookups use the
+-- memory from the command's start": a command sees memory through a view alone.
 use Prim.Native.Nat.{ℕ, zero, suc, _+_, _*_, _/_}
 use mathlib.Core.Bool.{Bool, true, not, _||_}
 use mathlib.Core.List.{[], _++_}
@@ -46,9 +45,10 @@ stored L x (Memory a) r = record { registers = r; flags = x .flags; writes = wri
 
 -- ---- The stack
 
--- document 000, 2.5.1, PUSHR: "for i := 14 downto 0 do SP := SP - 4; S[SP] := Ri"; here the turns
--- left, for i - 1 downto 0. sp is SP as the turns before left it, r the registers from the start,
--- ws what the turns before write, upward, f the flags, which stay
+-- "PUSHR and POPR follow 2.5.1 literally." Document 000, 2.5.1, PUSHR: "for i := 14 downto 0 do SP
+-- := SP - 4; S[SP] := Ri"; here the turns left, for i - 1 downto 0. sp is SP as the turns before
+-- left it, r the registers from the start, ws what the turns before write, upward, f the flags,
+-- which stay
 unfoldable pub pushed : ℕ → ℕ → Registers → VirtualWrites → ℕ → Done
 pushed zero sp r ws f = record { registers = set r 14 sp; flags = f; writes = ws }
 pushed (suc i) sp r ws f =
@@ -97,6 +97,7 @@ jumps JC f = flagC f
 
 -- ---- Commands that both modes allow, with flags f before and operands o
 
+-- "HALT, PUSHR, POPR, system calls, jumps, CALL and RET keep flags."
 unfoldable pub commonDone : Common → View → ℕ → Operands → OrAlarm Done
 commonDone (result op s) v f o = do
   x ← operate op (lengthOf s) (natural (lengthOf s) (o .first)) (natural (lengthOf s) (o .second))
@@ -156,7 +157,9 @@ completionOf effect (both c) v f o = do
   got (done d)
 completionOf effect (only s) v f o = got (ofMode (effect s o))
 
--- the order inside a command
+-- the order inside a command: "byte, mode, then each operand left to right (fetch, form, address,
+-- and reading where its value is used), the stack bytes read, from SP upward, the operation, the
+-- bytes written, upward from the first (for PUSHR and CALL the new SP)"
 unfoldable pub commandBy : {S E : Type 0} → (ℕ → Command → OrAlarm (Allowed S)) → (S → Operands → E) → View
     → Registers → ℕ → OrAlarm (Completion E)
 commandBy mode effect v r f = do

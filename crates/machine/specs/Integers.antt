@@ -63,14 +63,15 @@ exact L z c = resultOf L (kept L z) (not (fits L z)) c
 unfoldable pub complement : ℕ → ℕ → ℕ
 complement L a = span L - 1 - a
 
--- C: "unsigned carry"
+-- "ADD, SUB, MOVEN (0 minus its operand) set V when the exact signed result doesn't fit, C on
+-- unsigned carry or borrow"
 unfoldable pub added : ℕ → ℕ → ℕ → Result
 added L a b = exact L (signed L b +ℤ signed L a) (leb (span L) (b + a))
 
--- C: "or borrow"
 unfoldable pub subtracted : ℕ → ℕ → ℕ → Result
 subtracted L a b = exact L (signed L b -ℤ signed L a) (ltb b a)
 
+-- "MULT and DIV set V likewise"
 unfoldable pub multiplied : ℕ → ℕ → ℕ → Result
 multiplied L a b = exact L (signed L b *ℤ signed L a) false
 

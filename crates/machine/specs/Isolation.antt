@@ -1,7 +1,8 @@
--- Demand 3, with the last paragraph of document 01's "One step": a single claim about a list of
--- steps and level requests, given alike to two desks in user mode that are equal except in memory.
--- No validity of state or memory is assumed. The words "reached", "writable reached" and "the map's
--- bytes" are those of Map.antt, and mean the map as it is before the first call.
+-- Demand 3, with the last paragraph of document 01's "One step": "Demand 3 is a single claim about
+-- its list, not one for each call." The list is given alike to two desks in user mode that are
+-- equal except in memory. "Each desk starts from the state and memory handed in, also where calls
+-- refuse them or the desk is already stopped": no validity of state or memory is assumed. "Demand 3
+-- means the map, its entries and the reached frames as they are before the first call."
 use Prim.Native.Nat.{ℕ, suc, _+_, _≤_, _<_}
 use mathlib.Core.Bool.{true}
 use mathlib.Core.Path.{_≡_}
@@ -19,8 +20,10 @@ use Rattle.machine.specs.Map.{Reached, WritableReached, InMap, commit}
 use Rattle.machine.specs.Steps.{Event, quiet, entered, stopped, Outcome}
 use Rattle.machine.specs.Calls.{stepRefusal, stepOutcome, requestRefusal, requestOutcome}
 
--- ---- The list: "single steps and level requests, with any number as the level, in any order and of any length"
+-- ---- The list
 
+-- "The list holds single steps and level requests, with any number as the level, in any order and
+-- of any length; a run is steps by demand 2 and needs no place in it."
 pub data Call : Type 0 where
   step : Call
   request : ℕ → Call
@@ -79,7 +82,10 @@ Changed o m quiet x y =
 Changed o m (entered i saved) x y = (length saved ≡ savedByteCount) × (y ≡ sets x (o .control .0) saved)
 Changed o m (stopped n) x y = y ≡ x
 
--- one call, given alike to desk d over memory x and to desk e over memory y
+-- one call, given alike to desk d over memory x and to desk e over memory y: "After each call, up
+-- to and including the first that enters the kernel or stops the desk, these are equal on both: its
+-- refusal, the whole state that travels by value (status, pending set and mark too), and every
+-- reached byte."
 pub record Alike (o : Desk) (m : Memory) (c : Call) (d : Desk) (x : Memory) (e : Desk) (y : Memory) : Type 0 where
   -- "they give the same refusals"
   pub refusals : refusalOf c d x ≡ refusalOf c e y

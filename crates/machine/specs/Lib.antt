@@ -1,4 +1,8 @@
--- What the desk means: document 01 in its order. Read from the top, with the paper beside it.
+-- What the desk means: document 01 in its order. Read from the top, with the paper beside it. "From
+-- document 000 come 1.1.1, 1.1.2, 1.2, 1.3, 2.4 and 2.5.1 to 2.5.5, integers only. The code bytes,
+-- flags, map and blocks below are the desk's own; where they differ from document 000, this paper
+-- decides. Left out: floats, bit fields, devices, several processors, the assembler, documents 001
+-- to 004."
 
 -- bytes of a value stand highest first; B, H, W
 pub mod Words

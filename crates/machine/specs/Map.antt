@@ -30,6 +30,7 @@ unfoldable pub mapEntry : Map → Memory → ℕ → ℕ
 mapEntry map m p = pick (leb (map .base .0 + 4 * p + 4) (length m)) (wordAt m (map .base .0 + 4 * p)) 0
 
 -- "Its highest bit (value 80000000h) means present"
+-- "An absent entry's other bits mean nothing."
 unfoldable pub present : ℕ → Bool
 present e = leb 0x8000_0000 e
 
@@ -167,9 +168,10 @@ pub record WritableReached (map : Map) (m : Memory) (f : FrameNumber) : Type 0 w
   pub names : Names map m page f
   pub write : writable (mapEntry map m page) ≡ true
 
--- the byte at place a belongs to the map: "from map base up to, but not including, map base + 4 ×
--- map length"; "bytes past the memory, and entries not wholly inside it, count for nothing", so the
--- entry that the byte is part of lies inside
+-- the byte at place a belongs to the map: "The map's bytes run from map base up to, but not
+-- including, map base + 4 × map length; a frame holds part of the map when one of them lies in it.
+-- For these words and in demand 3, bytes past the memory, and entries not wholly inside it, count
+-- for nothing.": so the entry that the byte is part of lies inside
 pub record InMap (map : Map) (m : Memory) (a : ℕ) : Type 0 where
   pub low : map .base .0 ≤ a
   pub high : a < map .base .0 + 4 * map .length

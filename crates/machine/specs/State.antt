@@ -27,7 +27,8 @@ frameStart f = 512 * f .0
 abbrev pub frameAround : ℕ → FrameNumber
 frameAround a = record { 0 = a / 512 }
 
--- ---- Registers: "R14 is the stack pointer SP, R15 the address of the next command"
+-- ---- Registers: "Sixteen registers of 32 bits travel with the state by value. R14 is the stack
+-- pointer SP, R15 the address of the next command."
 
 abbrev pub Registers : Type 0
 Registers = List ℕ

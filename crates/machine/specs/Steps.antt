@@ -83,13 +83,17 @@ unfoldable pub interrupted : ℕ → Registers → ℕ → Plan → Plan
 interrupted zero r p otherwise = otherwise
 interrupted (suc k) r p otherwise = enters (16 + suc k) r (suc k) (withoutLevel p (suc k))
 
+-- "that entry is a whole step. Otherwise one command runs"
 unfoldable pub userPlan : Registers → ℕ → ℕ → View → Plan
 userPlan r s p v = interrupted (due 15 p (levelOf s)) r p (ofUserCommand r s p v (userCommand v r (flagsOf s)))
 
 -- ---- Kernel entry
 
--- cause i, registers r to save, argument x, pending set p left, new R15 and new status; 16: "the
--- system block's entry holds no valid kernel status"
+-- "Kernel entry with cause i reads entry i of the system block, writes R0 to R15, status and
+-- argument to the control block, then sets R15 and status." "An entry's saved bytes are those it
+-- writes to the control block." 16 "does the same and saves nothing, pending bit kept" cause i,
+-- registers r to save, argument x, pending set p left, new R15 and new status; 16: "the system
+-- block's entry holds no valid kernel status"
 unfoldable pub enterIf : Bool → Desk → ℕ → Registers → ℕ → ℕ → ℕ → ℕ → Outcome
 enterIf false d i r x p new s = stop 16 d
 enterIf true d i r x p new s = record {
@@ -109,7 +113,8 @@ userStep d v block = concluded d block (userPlan (d .registers) (d .status) (d .
 -- ---- Kernel mode: "an alarm stops the desk with its number"
 
 -- RESUME of the block at address a, which is real: it "loads R0 to R15, status, map base and map
--- length from the control block at its address, which becomes the control block"; 14 where
+-- length from the control block at its address, which becomes the control block; the desk holds no
+-- argument, so that word is not loaded"; 14 where
 -- "RESUME's block breaks 3 or 4 or its status isn't a valid user status", since "A block that
 -- doesn't fit is alarm 14, never 8"
 unfoldable pub resume : Desk → Memory → RealAddress → Outcome

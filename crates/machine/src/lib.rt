@@ -9,7 +9,8 @@ pub const SYSTEM_BLOCK_BYTES: u64 = 256;
 
 pub const CONTROL_BLOCK_BYTES: u64 = 80;
 
-// Three kinds of number that must not stand for one another.
+// "Virtual address, real address and frame number are three kinds, and the code must not accept one
+// in place of another."
 
 // An address that a command names: real in kernel mode, looked up in the map in user mode.
 pub struct VirtualAddress(pub u32);
