@@ -71,7 +71,7 @@ pub fn by_form(
     z: u32,
 ) -> Location
     requires { ⌜ Fits map (now mem) × ((x < 16) × (y < 16)) ⌝ }
-    ensures spot { λ r. ⌜ locationAs r (now (regs .exit))
+    ensures location { λ r. ⌜ locationAs r (now (regs .exit))
         ≡ formed (viewBy status map (now (mem .entry))) place (lengthOf size) (now (regs .entry)) (record { form = form; x = x; y = y; z = z }) ⌝ }
     ensures small { λ r. ⌜ SmallLocation r ⌝ }
 {

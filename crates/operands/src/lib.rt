@@ -50,7 +50,7 @@ fn operand(
     place: u32,
 ) -> Location
     requires { ⌜ Fits map (now mem) × FetchedFrom (viewBy status map (now mem)) (now mem) start found ⌝ }
-    ensures spot { λ r. ⌜ locationAs r (now (regs .exit))
+    ensures location { λ r. ⌜ locationAs r (now (regs .exit))
         ≡ operandAt (viewBy status map (now (mem .entry))) place (lengthOf size) (now (regs .entry)) ⌝ }
     ensures small { λ r. ⌜ SmallLocation r ⌝ }
 {
@@ -183,14 +183,14 @@ fn take(
     size: Size,
     role: Role,
     place: u32,
-    spot: Location,
+    location: Location,
 ) -> Taken
-    requires { ⌜ Fits map (now mem) × SmallLocation spot ⌝ }
+    requires { ⌜ Fits map (now mem) × SmallLocation location ⌝ }
     ensures value { λ r. ⌜ takenAs r
-        ≡ takenFrom (viewBy status map (now (mem .entry))) place (lengthOf size) role (locationAs spot (now (regs .entry))) ⌝ }
+        ≡ takenFrom (viewBy status map (now (mem .entry))) place (lengthOf size) role (locationAs location (now (regs .entry))) ⌝ }
     ensures small { λ r. ⌜ SmallTaken r ⌝ }
 {
-    match spot {
+    match location {
         Location::Immediate(z) => take_immediate(role, place, z),
         Location::Register(x) => {
             let i = x as usize;
@@ -237,8 +237,8 @@ pub fn take_all(
     while place <= count {
         let size = rules::size_in(rest);
         let role = rules::role_in(rest);
-        let spot = operand(mem, regs, status, map, start, found, size, place);
-        let t = take(mem, regs, status, map, size, role, place, spot);
+        let location = operand(mem, regs, status, map, start, found, size, place);
+        let t = take(mem, regs, status, map, size, role, place, location);
         match t {
             Taken::Got(n, goes) => {
                 first = chosen(place, 1, n, first);
