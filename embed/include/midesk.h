@@ -34,9 +34,9 @@
  *
  * The inline functions at the end only read and write bytes; they check nothing, and each says what it needs.
  *
- * A number ending in h is hexadecimal. "Document 01" is the paper that defines the desk; in the repository
- * crates/machine/specs defines it, crates/machine/specs/Code.antt the bytes of the commands, of which examples/README.md has
- * examples.
+ * A number ending in h is hexadecimal. The reference manual is docs/MACHINE.md of the repository: command bytes with
+ * their operands and flags, operand forms, the order inside a step, the memory drawn with a map. The numbers below are
+ * those of its tables.
  */
 #ifndef MIDESK_H
 #define MIDESK_H
@@ -154,7 +154,8 @@ extern "C" {
 
 /* Other numbers of a stop. */
 #define MIDESK_STOP_HALT 0u          /* the command HALT */
-#define MIDESK_STOP_SYSTEM_ENTRY 16u /* the system block's entry holds no valid kernel status */
+#define MIDESK_STOP_SYSTEM_ENTRY 16u /* the system block's entry holds no valid kernel status; memory, pending set and
+                                        all else but the mark are as before the step */
 
 /*
  * Makes a fresh desk over this memory: zero registers except R15 = start, kernel mode, level 0, flags 0, no map,
@@ -169,7 +170,7 @@ uint32_t midesk_fresh(const uint8_t *mem, size_t len, uint32_t system, uint32_t 
 
 /*
  * One step: in user mode the highest pending level above the status level is entered and its pending bit cleared;
- * otherwise one command runs. state and memory become what document 01 says.
+ * otherwise one command runs. docs/MACHINE.md says what it does to state and memory, and in which order.
  *
  * The answer is a kind and a number: take them with midesk_kind and midesk_number. When refused (MIDESK_REFUSED_LENGTH
  * to _STATUS and _STOPPED, tried in this order), state and memory are as they were.
@@ -178,8 +179,8 @@ uint64_t midesk_step(uint8_t *mem, size_t len, uint8_t state[MIDESK_STATE_BYTES]
 
 /*
  * At most n steps, fewer only where the desk stops: exactly what that many calls of midesk_step leave. Kernel entries
- * do not end it. *steps becomes the number of steps made, the stopping one and entries included; 0 when refused. A run
- * of 0 steps makes the same checks and changes nothing.
+ * do not end it: to see them, call midesk_step. *steps becomes the number of steps made, the stopping one and entries
+ * included; 0 when refused. A run of 0 steps makes the same checks and changes nothing.
  *
  * Answers MIDESK_OK or a refusal as midesk_step has them; when refused, state and memory are as they were. Look at
  * midesk_running(state) for whether the desk has stopped, and at midesk_mark(state) for the number.
