@@ -76,14 +76,16 @@ unfolding actionOf known knownIn table operate jumps
 action-of-spec =
     tie.close
     (tie.spec
-    -- what the calls require: nothing (λ c κs. search needs) (λ c κs. search needs) (λ c κs. search needs)
+    -- what the calls require: nothing
+    (λ c κs. search needs) (λ c κs. search needs) (λ c κs. search needs)
     (λ c κs. search needs) (λ c κs. search needs) (λ c κs. search needs) (λ c κs. search needs)
     (λ c κs. search needs) (λ c κs. search needs) (λ c κs. search needs) (λ c κs. search needs)
     (λ c κs. search needs) (λ c κs. search needs) (λ c κs. search needs) (λ c κs. search needs)
     (λ c κs. search needs) (λ c κs. search needs) (λ c κs. search needs) (λ c κs. search needs)
     (λ c κs. search needs) (λ c κs. search needs) (λ c κs. search needs) (λ c κs. search needs)
     (λ c κs. search needs) (λ c κs. search needs) (λ c κs. search needs) (λ c κs. search needs)
-    (λ c κs. search needs) (λ c κs. search needs) (λ c κs. search needs)  -- the single bytes
+    (λ c κs. search needs) (λ c κs. search needs) (λ c κs. search needs)
+    -- the single bytes
     (λ c. rw (c .match .keys1)) (λ c. rw (c .match .keys2)) (λ c. rw (c .match .keys3))
     (λ c. rw (c .match .keys4)) (λ c. rw (c .match .keys5))
     (λ c. simp (c .plain .ensures .0, c .before .match .keys6, word-x (search)))
@@ -98,7 +100,8 @@ action-of-spec =
     (λ c. simp (c .flag-z4 .ensures, c .before .flag-n4 .ensures, c .before .before .match .keys16))
     (λ c. simp (c .flag-v .ensures, c .before .match .keys17))
     (λ c. simp (c .flag-c .ensures, c .before .match .keys18)) (λ c. rw (c .match .keys19))
-    (λ c. rw (c .match .keys20))  -- a row of three sizes
+    (λ c. rw (c .match .keys20))
+    -- a row of three sizes
     (λ c. simp (c .plain3 .ensures .0, c .before .low .ensures .0, row (result MOVE) 0x10 (search) refl (omega arith)))
     (λ c. simp (c .plain4 .ensures .0, row (result CLEAR) 0x14 (search) refl (omega arith)))
     (λ c. simp (c .subtract .ensures .0, zero-mod, row (result MOVEN) 0x18 (search) refl (omega arith)))
@@ -107,7 +110,8 @@ action-of-spec =
       c .before .complement .ensures,
       row (result MOVEC) 0x1C (search) refl (omega arith),
     ))
-    (λ c. simp (c .compare .ensures .0, row CMP 0x64 (search) refl (omega arith)))  -- two rows of three sizes
+    (λ c. simp (c .compare .ensures .0, row CMP 0x64 (search) refl (omega arith)))
+    -- two rows of three sizes
     (λ c. simp (
       c .divide .ensures,
       rows (result DIV) 0x58 (search) refl refl (c .before .if34 .came) (λ w. omega arith) (λ w. omega arith),
@@ -136,7 +140,8 @@ action-of-spec =
       c .or .ensures,
       rows (result OR) 0x28 (search) refl refl (c .before .if2 .came) (λ w. omega arith) (λ w. omega arith),
     ))
-    -- the unknown bytes (λ c. gap 0x00 0x10 (search) tt (omega arith))
+    -- the unknown bytes
+    (λ c. gap 0x00 0x10 (search) tt (omega arith))
     (λ c. gap 0x13 0x14 (search) tt (omega arith)) (λ c. gap 0x17 0x18 (search) tt (omega arith))
     (λ c. gap 0x1B 0x1C (search) tt (omega arith)) (λ c. gap 0x1F 0x28 (search) tt (omega arith))
     (λ c. gap 0x2B 0x2C (search) tt (omega arith)) (λ c. gap 0x2F 0x30 (search) tt (omega arith))
