@@ -21,7 +21,8 @@
  *         return 0;
  *     }
  *
- * Link it with target/staticlib/libmidesk.a. c/user_mode.c beside this folder shows user mode, a map and an interrupt.
+ * Link it with target/staticlib/libmidesk.a of the repository or, where embed/install has put it elsewhere, with what
+ * `pkg-config --cflags --libs midesk` says. embed/c/user_mode.c shows user mode, a map and an interrupt.
  *
  * What you must ensure, since no call can check it:
  *   - mem points to len bytes that may be read and, except for midesk_fresh, written; where len is 0, any pointer will
@@ -47,6 +48,16 @@
 #ifdef __cplusplus
 extern "C" {
 #endif
+
+/*
+ * The version of this header; midesk_version() is that of the archive. PATCH grows where nothing changes that a caller
+ * sees, MINOR where something is added, MAJOR where a program may have to be changed. MIDESK_VERSION is one number, for
+ * comparisons in #if too: 65536 x MAJOR + 256 x MINOR + PATCH.
+ */
+#define MIDESK_VERSION_MAJOR 1
+#define MIDESK_VERSION_MINOR 0
+#define MIDESK_VERSION_PATCH 0
+#define MIDESK_VERSION (MIDESK_VERSION_MAJOR * 65536u + MIDESK_VERSION_MINOR * 256u + MIDESK_VERSION_PATCH)
 
 /*
  * The state: 90 bytes, each value highest byte first. Every content is a state, and two different contents are two
@@ -195,6 +206,9 @@ uint32_t midesk_run(uint8_t *mem, size_t len, uint8_t state[MIDESK_STATE_BYTES],
  * Answers MIDESK_OK, MIDESK_REFUSED_STATUS or MIDESK_REFUSED_LEVEL; when refused, state is as it was.
  */
 uint32_t midesk_request(uint8_t state[MIDESK_STATE_BYTES], uint32_t level);
+
+/* The version of the archive, as MIDESK_VERSION has it: equal to it where header and archive belong together. */
+uint32_t midesk_version(void);
 
 /* The kind of midesk_step's answer: MIDESK_DONE, MIDESK_REFUSED, MIDESK_ENTERED or MIDESK_STOPPED. */
 static inline uint32_t midesk_kind(uint64_t answer)

@@ -74,3 +74,11 @@ runLeft r =
 
 unfoldable pub runCall : ℕ → List ℕ → Memory → RunLeft
 runCall n state m = runLeft (runOf n (unpacked state) m)
+
+-- The version, 1.0.0, as one number
+
+abbrev pub versionOf : ℕ → ℕ → ℕ → ℕ
+versionOf major minor patch = major * 65536 + minor * 256 + patch
+
+unfoldable pub version : ℕ
+version = versionOf 1 0 0

@@ -1,8 +1,8 @@
 // The four calls for programs in C and Rust: the state as bytes, the memory as a lent slice. Any
-// bytes are a state; every call answers.
+// bytes are a state; every call answers. Beside them the version of the archive.
 ghost use mathlib.Core.Path.{_≡_};
 ghost use lib.ListN.{length};
-ghost use Rattle.midesk.specs.Exports.{freshCall, requestCall, runCall, stepCall, stepCode};
+ghost use Rattle.midesk.specs.Exports.{freshCall, requestCall, runCall, stepCall, stepCode, version};
 use layout::STATE_BYTES;
 use machine::RealAddress;
 use machine::StepAnswer;
@@ -88,4 +88,12 @@ pub extern "C" fn midesk_request(state: &mut [u8; STATE_BYTES], level: u32) -> u
     *state = layout::pack(d);
     let a = r.answer;
     a.number()
+}
+
+// The version of the archive: major, minor and patch in a byte each, patch lowest.
+#[no_mangle]
+pub extern "C" fn midesk_version() -> u32
+    ensures { λ r. ⌜ r ≡ version ⌝ }
+{
+    0x01_00_00
 }

@@ -3,8 +3,11 @@
 use std::fmt;
 
 /// Why a call was refused, with document 01's numbers 1 to 7. A refused call has changed nothing.
+///
+/// A later version may have more of them, so a `match` needs an arm for the others.
 #[derive(Clone, Copy, PartialEq, Eq, Hash, Debug)]
 #[repr(u32)]
+#[non_exhaustive]
 pub enum Refusal {
     /// The memory length is not allowed. Allowed are the multiples of 512 from 512 to 16,777,216.
     Length = 1,
@@ -53,7 +56,10 @@ impl fmt::Display for Refusal {
 impl std::error::Error for Refusal {}
 
 /// What one step did.
+///
+/// A later version may tell more apart, so a `match` needs an arm for the others.
 #[derive(Clone, Copy, PartialEq, Eq, Hash, Debug)]
+#[non_exhaustive]
 pub enum Event {
     /// A command was carried out.
     Done,
@@ -65,7 +71,10 @@ pub enum Event {
 }
 
 /// Whether a desk runs.
+///
+/// A later version may tell more apart, so a `match` needs an arm for the others.
 #[derive(Clone, Copy, PartialEq, Eq, Hash, Debug)]
+#[non_exhaustive]
 pub enum Mark {
     /// It runs.
     Running,

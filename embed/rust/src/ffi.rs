@@ -12,6 +12,7 @@ mod c {
         pub fn midesk_step(mem: *mut u8, len: usize, state: *mut u8) -> u64;
         pub fn midesk_run(mem: *mut u8, len: usize, state: *mut u8, n: u64, steps: *mut u64) -> u32;
         pub fn midesk_request(state: *mut u8, level: u32) -> u32;
+        pub fn midesk_version() -> u32;
     }
 }
 
@@ -41,4 +42,10 @@ pub fn run(mem: &mut [u8], state: &mut [u8; STATE_BYTES], n: u64) -> (u32, u64) 
 pub fn request(state: &mut [u8; STATE_BYTES], level: u32) -> u32 {
     // SAFETY: `state` is 90 bytes that may be read and written.
     unsafe { c::midesk_request(state.as_mut_ptr(), level) }
+}
+
+/// The version of the archive.
+pub fn version() -> u32 {
+    // SAFETY: the call takes nothing and touches no memory.
+    unsafe { c::midesk_version() }
 }

@@ -25,8 +25,8 @@
 //! [`numbers`] describes what the desk uses in memory: system block, control block and map.
 //!
 //! The crate links `libmidesk.a`, which `embed/build` of the repository makes. "Document 01" is the paper that defines
-//! the desk; in the repository `crates/machine/specs` defines it, `crates/machine/specs/Code.antt` the bytes of the commands, of
-//! which `examples/README.md` has examples.
+//! the desk; in the repository `crates/machine/specs` defines it, `crates/machine/specs/Code.antt` the bytes of the
+//! commands, of which `examples/README.md` has examples.
 #![deny(missing_docs)]
 #![deny(unsafe_code)]
 
@@ -41,6 +41,20 @@ use std::fmt;
 
 /// Bytes of a desk's state.
 pub const STATE_BYTES: usize = 90;
+
+/// The version of this crate as one number, 65536 × major + 256 × minor + patch, as the C header has it in
+/// `MIDESK_VERSION`.
+pub const VERSION: u32 = 0x01_00_00;
+
+/// The version of the archive `libmidesk.a` that is linked, as one number: [`VERSION`] where crate and archive belong
+/// together.
+///
+/// ```
+/// assert_eq!(midesk::version(), midesk::VERSION);
+/// ```
+pub fn version() -> u32 {
+    ffi::version()
+}
 
 const STATUS: usize = 64;
 const MAP_BASE: usize = 68;
@@ -65,7 +79,7 @@ impl Desk {
     ///
     /// # Errors
     ///
-    /// [`Refusal::Length`], [`Refusal::SystemBlock`] or [`Refusal::ControlBlock`].
+    /// [`Refusal::Length`], [`Refusal::SystemBlock`] or [`Refusal::ControlBlock`], tried in this order.
     pub fn fresh(memory: &[u8], system: u32, control: u32, start: u32) -> Result<Desk, Refusal> {
         let mut state = [0; STATE_BYTES];
         answers::refused(ffi::fresh(memory, system, control, start, &mut state))?;
@@ -73,16 +87,20 @@ impl Desk {
     }
 
     /// One step: in user mode the highest pending level above the status level is entered and its pending bit cleared;
-    /// otherwise one command runs.
+    /// otherwise one command runs. Desk and memory become what document 01 says; the answer tells whether a command was
+    /// carried out, the kernel was entered or the desk has stopped.
     ///
     /// # Errors
     ///
-    /// [`Refusal::Length`] to [`Refusal::Status`] or [`Refusal::Stopped`]; desk and memory are as they were.
+    /// [`Refusal::Length`] to [`Refusal::Status`] or [`Refusal::Stopped`], tried in this order; desk and memory are as
+    /// they were.
     pub fn step(&mut self, memory: &mut [u8]) -> Result<Event, Refusal> {
         answers::stepped(ffi::step(memory, &mut self.state))
     }
 
-    /// At most `n` steps, fewer only where the desk stops; answers how many. Kernel entries do not end it.
+    /// At most `n` steps, fewer only where the desk stops: exactly what that many calls of [`Desk::step`] leave. Answers
+    /// how many it made, the stopping one and kernel entries included; entries do not end it. [`Desk::mark`] tells
+    /// whether the desk has stopped, and with which number.
     ///
     /// # Errors
     ///

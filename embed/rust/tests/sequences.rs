@@ -38,6 +38,7 @@ fn step_number(answer: Result<Event, midesk::Refusal>) -> u64 {
         Err(refusal) => (1, refusal.number()),
         Ok(Event::Entered(cause)) => (2, cause),
         Ok(Event::Stopped(number)) => (3, number),
+        Ok(event) => panic!("an event that the model does not have: {event:?}"),
     };
     kind << 32 | u64::from(number)
 }
