@@ -2,7 +2,7 @@
 
 use std::fmt;
 
-/// Why a call was refused, with document 01's numbers 1 to 7. A refused call has changed nothing.
+/// Why a call was refused, numbers 1 to 7 of the manual (`docs/MACHINE.md`). A refused call has changed nothing.
 ///
 /// A later version may have more of them, so a `match` needs an arm for the others.
 #[derive(Clone, Copy, PartialEq, Eq, Hash, Debug)]
@@ -27,7 +27,7 @@ pub enum Refusal {
 }
 
 impl Refusal {
-    /// Its number in document 01.
+    /// Its number in the manual.
     pub fn number(self) -> u32 {
         self as u32
     }

@@ -24,9 +24,8 @@
 //!
 //! [`numbers`] describes what the desk uses in memory: system block, control block and map.
 //!
-//! The crate links `libmidesk.a`, which `embed/build` of the repository makes. "Document 01" is the paper that defines
-//! the desk; in the repository `crates/machine/specs` defines it, `crates/machine/specs/Code.antt` the bytes of the
-//! commands, of which `examples/README.md` has examples.
+//! The crate links `libmidesk.a`, which `embed/build` of the repository makes. `docs/MACHINE.md` there is the reference
+//! manual: command bytes, operand forms, blocks, map, numbers.
 #![deny(missing_docs)]
 #![deny(unsafe_code)]
 
@@ -87,7 +86,7 @@ impl Desk {
     }
 
     /// One step: in user mode the highest pending level above the status level is entered and its pending bit cleared;
-    /// otherwise one command runs. Desk and memory become what document 01 says; the answer tells whether a command was
+    /// otherwise one command runs. Desk and memory become what the manual says; the answer tells whether a command was
     /// carried out, the kernel was entered or the desk has stopped.
     ///
     /// # Errors

@@ -1,5 +1,5 @@
-//! Numbers of document 01: causes of a kernel entry, numbers of a stop, bits of the status word, and what the desk uses
-//! in memory.
+//! Numbers of the manual, `docs/MACHINE.md`: causes of a kernel entry, numbers of a stop, bits of the status word, and
+//! what the desk uses in memory.
 //!
 //! # Alarms
 //!
