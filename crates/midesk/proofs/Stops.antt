@@ -34,7 +34,7 @@ use Rattle.machine.specs.Calls.{stepRefusal, stepOutcome, requestRefusal, reque
 use Rattle.machine.specs.Calls.{runUnless, runOf}
 use Rattle.layout.specs.Layout.{runs, markNumber, markOf, unpacked}
 
-picked : {A : Type 0} (P : A → Type 0) (t : Bool) (a b : A) → P a → P b → P (pick t a b)
+pub picked : {A : Type 0} (P : A → Type 0) (t : Bool) (a b : A) → P a → P b → P (pick t a b)
 picked P true a b h k = h
 picked P false a b h k = k
 
@@ -50,7 +50,7 @@ stops n h e = let q : n ≡ runs = ap markNumber e in omega arith
 running : Representable Running
 running e = let z : _≡_ {A = ℕ} 0 1 = cc in omega arith
 
-small-alarm : (a : Alarm) → alarmNumber a ≤ 16
+pub small-alarm : (a : Alarm) → alarmNumber a ≤ 16
 small-alarm alarms.Address = omega arith
 small-alarm alarms.Absent = omega arith
 small-alarm alarms.MapEntry = omega arith
@@ -60,7 +60,7 @@ small-alarm alarms.Mode = omega arith
 small-alarm alarms.Operand = omega arith
 small-alarm alarms.Divide = omega arith
 
-small-number : (k : Refusal) → refusalNumber k ≤ 16
+pub small-number : (k : Refusal) → refusalNumber k ≤ 16
 small-number refusal.Length = omega arith
 small-number refusal.SystemBlock = omega arith
 small-number refusal.ControlBlock = omega arith
