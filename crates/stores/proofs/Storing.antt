@@ -1,5 +1,5 @@
--- A store: the bytes of a value one after the other, and the two loops of `store_bytes`, which
--- looks every byte up and then writes each to its place.
+-- A store: the bytes of a value one after the other, and the two loops of `store_each`, which looks
+-- every byte up and then writes each to its place.
 use Prim.Native.Nat.{ℕ, zero, suc, _+_, _-_, _/_, _%_, _^_, _≤_, _<_}
 use mathlib.Core.Path.{_≡_, refl}
 use mathlib.Core.List.{List, [], _∷_}

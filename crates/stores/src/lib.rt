@@ -1,8 +1,9 @@
 // Values and rows of bytes to memory through the map: every byte is looked up, in the memory from
-// the start, before any is written.
+// the start, before any is written. Bytes that lie in one page are found by the lookup of the first.
 ghost use mathlib.Core.Path.{_≡_};
-ghost use Prim.Native.Nat.{_≤_};
-ghost use lib.ListN.{take};
+ghost use Prim.Native.Nat.{_+_, _≤_};
+ghost use lib.ListN.{length, take};
+ghost use lib.Seq.{sets};
 ghost use Rattle.lookup.specs.Answers.{Fits};
 ghost use Rattle.machine.specs.Words.{bytesOf, lengthOf};
 ghost use Rattle.stores.specs.Answers.{storedAs, storedIn};
@@ -20,8 +21,21 @@ pub enum Stored {
     Alarm(u32, Alarm),
 }
 
-// The first n of some bytes to the addresses from x on.
-pub fn store_bytes(
+// Some bytes to the places from one on.
+fn lay(mem: &mut [u8], at: usize, bytes: &[u8])
+    requires { ⌜ at + length (now bytes) ≤ length (now mem) ⌝ }
+    ensures { λ r. ⌜ now (mem .exit) ≡ sets (now (mem .entry)) at (now (bytes .entry)) ⌝ }
+{
+    let mut i: usize = 0;
+    while i < bytes.len() {
+        mem[at + i] = bytes[i];
+        i += 1;
+    }
+}
+
+// The first n of some bytes to the addresses from x on, each looked up by itself: they may lie in
+// two pages. Apart from `store_bytes`, so that bytes in one page need no row of places.
+fn store_each(
     mem: &mut [u8],
     status: u32,
     map: Map,
@@ -57,6 +71,37 @@ pub fn store_bytes(
         j += 1;
     }
     Stored::Done
+}
+
+// The first n of some bytes to the addresses from x on.
+pub fn store_bytes(
+    mem: &mut [u8],
+    status: u32,
+    map: Map,
+    x: VirtualAddress,
+    bytes: &[u8; 60],
+    n: usize,
+) -> Stored
+    requires { ⌜ Fits map (now mem) × (n ≤ 60) ⌝ }
+    ensures { λ r. ⌜ storedAs r (now (mem .exit))
+        ≡ storedIn status map (now (mem .entry)) x (take n (now (bytes .entry))) ⌝ }
+{
+    let source = &bytes[..];
+    // No bytes, no lookup: there would be no first byte whose alarm is the answer.
+    if 0 < n && x.0 as usize % 512 + n <= 512 {
+        let s = lookup::look(mem, status, map, x, Access::Write);
+        match s {
+            Lookup::At(r) => {
+                let at = r.0 as usize;
+                lay(mem, at, &source[..n]);
+                return Stored::Done;
+            }
+            Lookup::Alarm(_, k) => {
+                return Stored::Alarm(x.0, k);
+            }
+        }
+    }
+    store_each(mem, status, map, x, bytes, n)
 }
 
 // The first bytes of a buffer are the value's, highest first.
@@ -96,7 +141,7 @@ pub fn store(
         }
     }
     let bytes = bytes_of(size, value);
-    store_bytes(mem, status, map, x, &bytes, n as usize)
+    store_each(mem, status, map, x, &bytes, n as usize)
 }
 
 // A word to an address. Small enough to become part of its caller.

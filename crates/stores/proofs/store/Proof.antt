@@ -3,12 +3,12 @@
 use mathlib.Core.Path.{_∙_}
 use native.Mathlib.Omega.{arith}
 use borrow.Author.Needs.{needs}
-use Rattle.machine.specs.Words.{lengthOf, bytesOf}
-use Rattle.machine.proofs.Writes.{commit-from}
+use Rattle.machine.specs.Words.{lengthOf}
 use Rattle.machine.proofs.Bytes.{bytes-length}
-use Rattle.machine.proofs.Pages.{located-alarm, located-page, page-inside}
+use Rattle.machine.proofs.Pages.{page-inside}
 use Rattle.lookup.proofs.Lookups.{look-found, look-alarm}
 use Rattle.words.proofs.Values.{length-bounds}
+use Rattle.stores.proofs.OnePage.{page-stored, page-stopped}
 use Rattle.stores.proofs.store.Statement.{statement}
 use Rattle.stores.proofs.store.Tie as tie
 
@@ -28,30 +28,25 @@ returns c =
     let start = looked .before .before .before .before .before .before in
     let found = look-found (c .before .before .before .before .before .before .s .given .1) (looked .look .ensures)
     (start .pre) (omega arith) in
-    let long = bytes-length (lengthOf (start .args .size)) (start .args .value) in
-    rw (
-      located-page found (bytesOf (lengthOf (start .args .size)) (start .args .value)) (omega arith),
-      commit-from,
-      c .before .before .value-to .ensures,
-    )
+    page-stored _ (bytes-length (lengthOf (start .args .size)) (start .args .value)) found (omega arith)
+    (c .before .before .value-to .ensures)
 
 returns-2 : tie.Need-returns-2
 returns-2 c =
     let looked = c .before .before .before in
     let start = looked .before .before .before .before .before .before in
     let stopped = look-alarm (c .before .s2 .given .1) (looked .look .ensures) (omega arith) in
-    let long = bytes-length (lengthOf (start .args .size)) (start .args .value) in
-    rw (located-alarm stopped (bytesOf (lengthOf (start .args .size)) (start .args .value))
-    (omega (arith, length-bounds (start .args .size))))
+    page-stopped _ (bytes-length (lengthOf (start .args .size)) (start .args .value)) stopped
+    (omega (arith, length-bounds (start .args .size)))
 
-store-bytes-requires : tie.Need-store-bytes-requires
-store-bytes-requires c κs =
+store-each-requires : tie.Need-store-each-requires
+store-each-requires c κs =
     let start = c .before .before .before .before .before .before .before in
     (start .pre, omega (arith, length-bounds (start .args .size)))
 
 returns-3 : tie.Need-returns-3
 returns-3 c =
-    c .before .before .store-bytes .ensures
+    c .before .before .store-each .ensures
     ∙ rw (
       c .before .before .before .before .before .before .before .before .length .ensures,
       c .before .before .before .before .before .bytes-of .ensures,
@@ -63,4 +58,4 @@ store-spec =
     (tie.spec
     (λ c κs. search needs) add-if1 (λ c κs. search needs) (λ c. search needs) (λ c. search needs)
     value-to-requires (λ c. search needs) returns (λ c. search needs) (λ c. search needs) returns-2
-    (λ c κs. search needs) (λ c. search needs) store-bytes-requires (λ c. search needs) returns-3)
+    (λ c κs. search needs) (λ c. search needs) store-each-requires (λ c. search needs) returns-3)

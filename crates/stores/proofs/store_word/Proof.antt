@@ -2,11 +2,10 @@
 -- byte's alarm is the answer; others are stored by `store`.
 use native.Mathlib.Omega.{arith}
 use borrow.Author.Needs.{needs}
-use Rattle.machine.specs.Words.{bytesOf}
-use Rattle.machine.proofs.Writes.{commit-from}
 use Rattle.machine.proofs.Bytes.{bytes-length}
-use Rattle.machine.proofs.Pages.{located-alarm, located-page, page-inside}
+use Rattle.machine.proofs.Pages.{page-inside}
 use Rattle.lookup.proofs.Lookups.{look-found, look-alarm}
+use Rattle.stores.proofs.OnePage.{page-stored, page-stopped}
 use Rattle.stores.proofs.store_word.Statement.{statement}
 use Rattle.stores.proofs.store_word.Tie as tie
 
@@ -22,20 +21,14 @@ returns c =
     let start = looked .before .before .before .before .before in
     let found = look-found (c .before .before .before .before .before .before .s .given .1) (looked .look .ensures)
     (start .pre) (omega arith) in
-    let long = bytes-length 4 (start .args .value) in
-    rw (
-      located-page found (bytesOf 4 (start .args .value)) (omega arith),
-      commit-from,
-      c .before .before .value-to .ensures,
-    )
+    page-stored _ (bytes-length 4 (start .args .value)) found (omega arith) (c .before .before .value-to .ensures)
 
 returns-2 : tie.Need-returns-2
 returns-2 c =
     let looked = c .before .before .before in
     let start = looked .before .before .before .before .before in
     let stopped = look-alarm (c .before .s2 .given .1) (looked .look .ensures) (omega arith) in
-    let long = bytes-length 4 (start .args .value) in
-    rw (located-alarm stopped (bytesOf 4 (start .args .value)) (omega arith))
+    page-stopped _ (bytes-length 4 (start .args .value)) stopped (omega arith)
 
 returns-3 : tie.Need-returns-3
 returns-3 c = c .before .before .store .ensures
