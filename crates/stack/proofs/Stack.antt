@@ -1,22 +1,29 @@
--- POPR turn by turn, and what PUSHR writes as one row of words.
-use Prim.Native.Nat.{ℕ, zero, suc, _+_, _-_, _*_, _<_, _≤_}
+-- POPR turn by turn, and what it comes to in one page; what PUSHR writes as one row of words.
+use Prim.Native.Nat.{ℕ, zero, suc, _+_, _-_, _*_, _%_, _<_, _≤_}
 use mathlib.Core.Path.{_≡_, refl, ap, _∙_}
 use mathlib.Core.List.{List, [], _∷_, _++_, append-assoc, append-nil}
 use native.Mathlib.Nat.{add-zero, zero-add}
 use native.Mathlib.Numerals.{add-one}
 use native.Mathlib.Omega.{arith}
 use borrow.Author.Tests.{eq-eqb, ne-eqb}
-use lib.ListN.{length, set, take, replicate, length-append}
-use lib.Seq.{take-all, set-append-seam}
+use lib.ListN.{length, set, take, replicate, length-append, length-set}
+use lib.Seq.{take-all, set-append-seam, sets, set-set, set-comm, set-getD, getD-set-same}
 use Rattle.machine.specs.declared.Access.the-variants.{Read}
 use Rattle.machine.specs.declared.Alarm.{Alarm}
-use Rattle.machine.specs.Words.{bytesOf, bytesOfWords, wrap, raised, lowered}
+use Rattle.machine.specs.declared.Map.{Map}
+use Rattle.machine.specs.declared.RealAddress.{RealAddress}
+use Rattle.machine.specs.declared.VirtualAddress.{VirtualAddress}
+use Rattle.machine.specs.Words.{Memory, bytesOf, bytesOfWords, wordAt, wordsAt, wrap, raised, lowered}
 use Rattle.machine.specs.State.{Registers, reg, registersFrom}
 use Rattle.machine.specs.Alarms.{got, alarm}
-use Rattle.machine.specs.Map.{View, VirtualWrites, readBytes, writesFrom}
+use Rattle.machine.specs.Map.{View, VirtualWrites, readBytes, viewBy, writesFrom}
+use Rattle.machine.specs.Operands.{virtual}
 use Rattle.machine.specs.Commands.{pushed, popped}
 use Rattle.machine.proofs.Blocks.{words-append, one-word, words-length, registers-length}
+use Rattle.machine.proofs.Pages.{Finds}
+use Rattle.words.proofs.Values.{four-byte-value}
 use Rattle.reads.proofs.Reading.{read-virtual}
+use Rattle.reads.proofs.OnePage.{read-from}
 
 -- ---- POPR
 
@@ -34,6 +41,63 @@ module _ (v : View) (n i : ℕ) (r : Registers) where
   pub popped-all : n ≤ i → popped v (n - i) i r ≡ got r
   unfolding popped
   popped-all h = let p : n - i ≡ 0 = omega arith in rw p
+
+-- ---- POPR in one page: the byte at SP is found at place a, and the words lie side by side
+
+module _ {s : ℕ} {map : Map} {m : Memory} {x : VirtualAddress} {a : RealAddress} (f : Finds s map m x Read a)
+    (page : x .0 % 512 + 60 ≤ 512) where
+  word-read : (i : ℕ) → i ≤ 14
+      → readBytes (viewBy s map m) Read 4 (virtual (x .0 + 4 * i)) ≡ got (wordAt m (a .0 + 4 * i))
+  word-read i l = rw (read-virtual, read-from f 4 (4 * i) 0 (omega arith), four-byte-value)
+
+  -- a turn before the last: Ri is the word, and SP goes on to the next
+  turn-below : (n i : ℕ) (r : Registers) → i < 14 → 14 < length r
+      → popped (viewBy s map m) (suc n) i (set r 14 (x .0 + 4 * i)) ≡ popped (viewBy s map m) n (suc i)
+      (set (set r i (wordAt m (a .0 + 4 * i))) 14 (x .0 + 4 * suc i))
+  unfolding popped
+  turn-below n i r l h =
+      let w = wordAt m (a .0 + 4 * i) in
+      let long : 14 < length (set r i w) = simp length-set h in
+      let up : raised (x .0 + 4 * i) 4 ≡ x .0 + 4 * suc i = omega arith in
+      rw (
+        getD-set-same r 14 (x .0 + 4 * i) 0 h,
+        word-read i (omega arith),
+        set-comm r 14 i (x .0 + 4 * i) w (λ e. omega arith),
+        getD-set-same (set r i w) 14 (x .0 + 4 * i) 0 long,
+        set-set,
+        up,
+      )
+
+  -- the last turn: SP itself is the word, and is raised
+  turn-last : (r : Registers) → 14 < length r
+      → popped (viewBy s map m) 1 14 (set r 14 (x .0 + 56)) ≡ got (set r 14 (raised (wordAt m (a .0 + 56)) 4))
+  unfolding popped
+  turn-last r h =
+      let w = wordAt m (a .0 + 56) in
+      rw (
+        getD-set-same r 14 (x .0 + 56) 0 h,
+        word-read 14 (omega arith),
+        set-set r 14 (x .0 + 56) w,
+        getD-set-same r 14 w 0 h,
+        set-set r 14 w,
+      )
+
+  -- n turns from i on, and the last one
+  turns : (n i : ℕ) (r : Registers) → i + n ≡ 14 → 14 < length r
+      → popped (viewBy s map m) (suc n) i (set r 14 (x .0 + 4 * i)) ≡ got
+      (sets r i (wordsAt n m (a .0 + 4 * i) ++ raised (wordAt m (a .0 + 56)) 4 ∷ []))
+  unfolding wordsAt
+  turns zero i r e h = let p : i ≡ 14 = omega arith in rw p (turn-last r h)
+  turns (suc n) i r e h =
+      let next : a .0 + 4 * i + 4 ≡ a .0 + 4 * suc i = omega arith in
+      rw next
+      (turn-below (suc n) i r (omega arith) h
+      ∙ turns n (suc i) (set r i (wordAt m (a .0 + 4 * i))) (omega arith) (simp length-set h))
+
+  pub popped-page : (r : Registers) → reg r 14 ≡ x .0 → 14 < length r
+      → popped (viewBy s map m) 15 0 r ≡ got
+      (sets r 0 (wordsAt 14 m (a .0) ++ raised (wordAt m (a .0 + 56)) 4 ∷ []))
+  popped-page r e h = rw (add-zero (x .0), add-zero (a .0), ← e, set-getD r 14 0) at (turns 14 0 r refl h)
 
 -- ---- Registers
 

@@ -1,12 +1,17 @@
 // The commands of the stack: PUSHR, POPR, CALL, RET.
 ghost use mathlib.Core.Path.{_≡_};
 ghost use mathlib.Core.List.{[], _++_, _∷_};
+ghost use Prim.Native.Nat.{_+_, _≤_};
+ghost use lib.ListN.{length};
+ghost use lib.Seq.{sets};
 ghost use Rattle.lookup.specs.Answers.{Fits};
 ghost use Rattle.machine.specs.Alarms.{got};
 ghost use Rattle.machine.specs.Commands.{called, poppedDone, pushed, returnedDone};
 ghost use Rattle.machine.specs.State.{flagsOf, reg, registersFrom};
-ghost use Rattle.machine.specs.Words.{bytesOfWords};
+ghost use Rattle.machine.specs.Words.{bytesOfWords, raised, wordAt, wordsAt};
 ghost use Rattle.results.specs.Ends.{endIn, outAs};
+use lookup::Lookup;
+use machine::Access;
 use machine::Map;
 use machine::Size;
 use machine::VirtualAddress;
@@ -42,7 +47,23 @@ pub fn push(mem: &mut [u8], regs: &mut [u32; 16], status: u32, map: Map) -> Out
     results::ended(done, status)
 }
 
-pub fn pop(mem: &[u8], regs: &mut [u32; 16], status: u32, map: Map) -> Out
+// The words from a place on to R0 to R14. The last is a new SP, which POPR raises.
+fn fill(mem: &[u8], regs: &mut [u32; 16], at: usize)
+    requires { ⌜ at + 60 ≤ length (now mem) ⌝ }
+    ensures { λ r. ⌜ now (regs .exit) ≡ sets (now (regs .entry)) 0
+        (wordsAt 14 (now (mem .entry)) at ++ raised (wordAt (now (mem .entry)) (at + 56)) 4 ∷ []) ⌝ }
+{
+    let mut i: usize = 0;
+    while i < 14 {
+        regs[i] = words::word(mem, at + 4 * i);
+        i += 1;
+    }
+    regs[14] = words::plus(words::word(mem, at + 56), 4);
+}
+
+// The words of POPR, each read by itself: they may lie in two pages. Apart from `pop`, which seldom
+// comes to it.
+fn pop_each(mem: &[u8], regs: &mut [u32; 16], status: u32, map: Map) -> Out
     requires { ⌜ Fits map (now mem) ⌝ }
     ensures { λ r. ⌜ outAs r (now (regs .exit)) (now (mem .entry))
         ≡ endIn status map (now (mem .entry)) (λ v. poppedDone v (now (regs .entry)) (flagsOf status)) ⌝ }
@@ -62,6 +83,30 @@ pub fn pop(mem: &[u8], regs: &mut [u32; 16], status: u32, map: Map) -> Out
         i += 1;
     }
     Out::Done(status)
+}
+
+pub fn pop(mem: &[u8], regs: &mut [u32; 16], status: u32, map: Map) -> Out
+    requires { ⌜ Fits map (now mem) ⌝ }
+    ensures { λ r. ⌜ outAs r (now (regs .exit)) (now (mem .entry))
+        ≡ endIn status map (now (mem .entry)) (λ v. poppedDone v (now (regs .entry)) (flagsOf status)) ⌝ }
+{
+    // Through a slice, of which the proof knows that it holds sixteen words.
+    let row = &regs[..];
+    let sp = row[14];
+    if sp % 512 + 60 <= 512 {
+        let s = lookup::look(mem, status, map, VirtualAddress(sp), Access::Read);
+        match s {
+            Lookup::At(r) => {
+                let at = r.0 as usize;
+                fill(mem, regs, at);
+                return Out::Done(status);
+            }
+            Lookup::Alarm(_, k) => {
+                return Out::Alarm(sp, k);
+            }
+        }
+    }
+    pop_each(mem, regs, status, map)
 }
 
 pub fn call(mem: &mut [u8], regs: &mut [u32; 16], status: u32, map: Map, a: u32) -> Out

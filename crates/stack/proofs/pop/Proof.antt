@@ -1,65 +1,48 @@
--- `pop` is right: the turns that are left come to what all of them come to, and the first read that
--- alarms ends it.
-use Prim.Native.Nat.{_≤_, _-_}
-use mathlib.Core.Path.{_≡_, refl, sym, _∙_}
+-- `pop` is right: words that lie in one page lie side by side in memory, and the first byte's alarm
+-- is the answer; others are read word by word.
+use mathlib.Core.Path.{refl, sym}
 use native.Mathlib.Omega.{arith}
 use borrow.Author.Needs.{needs}
+use Rattle.machine.specs.declared.Access.the-variants.{Read}
+use Rattle.machine.specs.State.{reg}
 use Rattle.machine.specs.Map.{viewBy, located, commit}
-use Rattle.machine.specs.Commands.{popped}
+use Rattle.machine.proofs.Pages.{read-alarm, Finds, page-inside}
+use Rattle.lookup.proofs.Lookups.{look-found, look-alarm}
 use Rattle.results.proofs.Ends.{same-status}
-use Rattle.stack.proofs.Stack.{popped-next, popped-alarm, popped-all}
+use Rattle.stack.proofs.Stack.{popped-page, popped-alarm}
 use Rattle.stack.proofs.pop.Statement.{statement}
 use Rattle.stack.proofs.pop.Tie as tie
 
-abbrev Inv-loop : tie.InvT-loop
-Inv-loop mem regs₀ status map i₀ regs i =
-    (i ≤ 15) × (popped (viewBy status map mem) (15 - i) i regs ≡ popped (viewBy status map mem) 15 0 regs₀)
+-- the lookup found the byte at SP
+found : (c : tie.After-s) → let a = c .before .before .before .before .before .before .before .before .args in
+    Finds (a .status) (a .map) (a .mem .now) (record { 0 = reg (a .regs .now) 14 }) Read (c .s .given .0 .0)
+found c =
+    let looked = c .before .before in
+    look-found (c .s .given .1) (looked .look .ensures) (looked .before .before .before .before .before .before .pre)
+    (omega (arith, looked .before .before .shared-slice-known2 .given 14))
 
-abbrev μ-loop : tie.MeasureT-loop
-μ-loop mem regs₀ status map i₀ regs i = 15 - i
+fill-requires : tie.Need-fill-requires
+fill-requires c κs = page-inside (found (c .before .before .before)) 60 (omega arith) (omega arith)
 
-loop-holds : tie.Need-loop-holds Inv-loop μ-loop
-loop-holds c = (omega arith, refl)
-
-returns : tie.Need-returns Inv-loop μ-loop
-returns c =
-    let a = c .before .before .before .before .before .before .before .before .args in
-    let turn = c .before .before .before .before .before .before .loop in
-    rw (
-      ← turn .inv .1,
-      popped-alarm (viewBy (a .status) (a .map) (a .mem .now)) 15 (turn .i) (turn .regs)
-          (c .before .before .before .before .before .loop-test .taken) _ _
-          (rw (c .before .w2 .given .1) at (c .before .before .before .read .ensures)),
-    )
-
-loop-again : tie.Need-loop-again Inv-loop μ-loop
-loop-again c =
-    let a = c .before .before .before .before .before .before .before .before .before .before .args in
-    let turn = c .before .before .before .before .before .before .before .before .loop in (
-      omega arith,
-      rw (c .plus .ensures)
-          (sym (popped-next (viewBy (a .status) (a .map) (a .mem .now)) 15 (turn .i) (turn .regs)
-          (c .before .before .before .before .before .before .before .loop-test .taken) _
-          (rw (c .before .before .before .w .given .1)
-          at (c .before .before .before .before .before .read .ensures))) ∙ turn .inv .1),
-    )
-
-returns-2 : tie.Need-returns-2 Inv-loop μ-loop
+returns : tie.Need-returns
 unfolding located commit
+returns c =
+    let s = c .before .before .before .before in
+    let a = s .before .before .before .before .before .before .before .before .args in
+    rw (popped-page (found s) (omega arith) (a .regs .now) refl (omega arith), same-status, c .fill .ensures)
+
+returns-2 : tie.Need-returns-2
 returns-2 c =
-    let a = c .before .before .before .args in
-    let turn = c .before .loop in
-    rw (
-      ← turn .inv .1,
-      popped-all (viewBy (a .status) (a .map) (a .mem .now)) 15 (turn .i) (turn .regs)
-          (c .loop-test .left),
-      same-status,
-    )
+    let looked = c .before .before .before in
+    let a = looked .before .before .before .before .before .before .args in
+    let stopped = look-alarm (c .before .s2 .given .1) (looked .look .ensures)
+    (omega (arith, looked .before .before .shared-slice-known2 .given 14)) in
+    rw (popped-alarm (viewBy (a .status) (a .map) (a .mem .now)) 15 0 (a .regs .now) (omega arith) _ _
+    (sym (read-alarm stopped 4 0 (omega arith))))
 
 pub pop-spec : {M : Type 1} → statement M
 pop-spec =
     tie.close
     (tie.spec
-    Inv-loop μ-loop loop-holds (λ c. search needs) (λ c κs. search needs) (λ c. search needs)
-    (λ c. search needs) (λ c. search needs) (λ c. search needs) (λ c κs. search needs) (λ c. search needs)
-    (λ c. search needs) returns (λ c. search needs) (λ c. search needs) loop-again returns-2)
+    (λ c. search needs) (λ c. search needs) (λ c κs. search needs) (λ c. search needs) (λ c. search needs)
+    fill-requires returns (λ c. search needs) returns-2 (λ c κs. search needs) (λ c. search needs))
