@@ -48,25 +48,25 @@ fn divide(size: Size, a: u32, b: u32) -> Action
 }
 
 // The flags' bits.
-fn flag_n(f: u32) -> bool
+pub fn flag_n(f: u32) -> bool
     ensures { λ r. ⌜ r ≡ flagN f ⌝ }
 {
     f / 8 % 2 == 1
 }
 
-fn flag_z(f: u32) -> bool
+pub fn flag_z(f: u32) -> bool
     ensures { λ r. ⌜ r ≡ flagZ f ⌝ }
 {
     f / 4 % 2 == 1
 }
 
-fn flag_v(f: u32) -> bool
+pub fn flag_v(f: u32) -> bool
     ensures { λ r. ⌜ r ≡ flagV f ⌝ }
 {
     f / 2 % 2 == 1
 }
 
-fn flag_c(f: u32) -> bool
+pub fn flag_c(f: u32) -> bool
     ensures { λ r. ⌜ r ≡ flagC f ⌝ }
 {
     f % 2 == 1

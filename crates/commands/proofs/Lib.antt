@@ -1,2 +1,2 @@
 mod Modes
-mod Laws
+pub mod Laws

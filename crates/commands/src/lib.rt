@@ -51,7 +51,13 @@ fn finish(
 }
 
 // The command at R15, by the lent table of rules. Where it alarms the registers are of no account.
-pub fn exec(mem: &mut [u8], regs: &mut [u32; 16], status: u32, map: Map, table: &[u16; 123]) -> Out
+pub fn command(
+    mem: &mut [u8],
+    regs: &mut [u32; 16],
+    status: u32,
+    map: Map,
+    table: &[u16; 123],
+) -> Out
     requires { ⌜ Fits map (now mem) × (now table ≡ tableOf) ⌝ }
     ensures { λ r. ⌜ outAs r (now (regs .exit)) (now (mem .exit))
         ≡ execOf status map (now (regs .entry)) (now (mem .entry)) ⌝ }

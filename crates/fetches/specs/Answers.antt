@@ -7,11 +7,13 @@ use Rattle.machine.specs.declared.Access.the-variants.{Fetch}
 use Rattle.machine.specs.Words.{Memory, byteAt, wordAt}
 use Rattle.machine.specs.Alarms.{OrAlarm, got, alarm}
 use Rattle.machine.specs.Map.{foundAt, View}
-use Rattle.machine.specs.Operands.{Fields}
+use Rattle.machine.specs.Operands.{Fields, fieldsAt}
 use Rattle.fetches.specs.declared.CommandByte.{CommandByte}
 use Rattle.fetches.specs.declared.CommandByte.the-variants as commandByte
 use Rattle.fetches.specs.declared.OperandBytes.{OperandBytes}
 use Rattle.fetches.specs.declared.OperandBytes.the-variants as operandBytes
+use Rattle.fetches.specs.declared.Nearby.{Nearby}
+use Rattle.fetches.specs.declared.Nearby.the-variants as nearby
 
 -- a command byte, wherever it lies
 abbrev pub commandByteAs : CommandByte → OrAlarm ℕ
@@ -42,3 +44,9 @@ operandBytesAt m a = operandBytes.Fields (byteAt m a) (byteAt m (a + 1)) (wordAt
 abbrev pub PairOrAlarm : OperandBytes → Type 0
 PairOrAlarm (operandBytes.Fields f q z) = q < 256
 PairOrAlarm (operandBytes.Alarm x k) = Unit {0}
+
+-- the six bytes from address x on, where they are told
+abbrev pub NearOf : View → VirtualAddress → Nearby → Type 0
+NearOf v x (nearby.Fields f q z) =
+    (got (record { form = f; x = q / 16; y = q % 16; z = z }) ≡ fieldsAt v (x .0)) × (q < 256)
+NearOf v x nearby.Elsewhere = Unit {0}

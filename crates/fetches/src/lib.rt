@@ -3,8 +3,8 @@
 ghost use mathlib.Core.Path.{_≡_};
 ghost use Prim.Native.Nat.{_+_, _≤_};
 ghost use lib.ListN.{length};
-ghost use Rattle.fetches.specs.Answers.{ByteOrAlarm, FetchedFrom, PairOrAlarm, PlaceOrAlarm, commandByteAs};
-ghost use Rattle.fetches.specs.Answers.{operandBytesAs, operandBytesAt};
+ghost use Rattle.fetches.specs.Answers.{ByteOrAlarm, FetchedFrom, NearOf, PairOrAlarm, PlaceOrAlarm};
+ghost use Rattle.fetches.specs.Answers.{commandByteAs, operandBytesAs, operandBytesAt};
 ghost use Rattle.lookup.specs.Answers.{Fits};
 ghost use Rattle.machine.specs.Map.{readBytes, viewBy};
 ghost use Rattle.machine.specs.Operands.{fieldsAt};
@@ -27,6 +27,12 @@ pub enum CommandByte {
 pub enum OperandBytes {
     Fields(u32, u32, u32),
     Alarm(u32, Alarm),
+}
+
+// The same where they lie in the page of a byte that was fetched.
+pub enum Nearby {
+    Fields(u32, u32, u32),
+    Elsewhere,
 }
 
 // A command byte.
@@ -105,8 +111,33 @@ fn fields_anew(mem: &[u8], status: u32, map: Map, x: VirtualAddress) -> OperandB
     fields_bytewise(mem, status, map, x)
 }
 
-// The six bytes of an operand, after a byte that was fetched: in that byte's page its lookup
-// answers for them too.
+// The six bytes of an operand, where they lie in the page of start, whose byte was fetched and lies
+// at found: its lookup answers for them too. Elsewhere promises nothing.
+pub fn near(
+    mem: &[u8],
+    status: u32,
+    map: Map,
+    x: VirtualAddress,
+    start: VirtualAddress,
+    found: RealAddress,
+) -> Nearby
+    requires { ⌜ Fits map (now mem) × FetchedFrom (viewBy status map (now mem)) (now mem) start found ⌝ }
+    ensures { λ r. ⌜ NearOf (viewBy status map (now (mem .entry))) x r ⌝ }
+{
+    let n = lookup::beside(start, found, x, 6);
+    match n {
+        Neighbour::At(r) => {
+            let f = fields_at(mem, r);
+            match f {
+                OperandBytes::Fields(form, pair, z) => Nearby::Fields(form, pair, z),
+                OperandBytes::Alarm(_, _) => Nearby::Elsewhere,
+            }
+        }
+        Neighbour::Elsewhere => Nearby::Elsewhere,
+    }
+}
+
+// The six bytes of an operand, after a byte that was fetched.
 pub fn fields(
     mem: &[u8],
     status: u32,
@@ -119,12 +150,12 @@ pub fn fields(
     ensures value { λ r. ⌜ operandBytesAs r ≡ fieldsAt (viewBy status map (now (mem .entry))) (x .0) ⌝ }
     ensures small { λ r. ⌜ PairOrAlarm r ⌝ }
 {
-    let near = lookup::beside(start, found, x, 6);
-    match near {
-        Neighbour::At(r) => {
-            return fields_at(mem, r);
+    let n = near(mem, status, map, x, start, found);
+    match n {
+        Nearby::Fields(form, pair, z) => {
+            return OperandBytes::Fields(form, pair, z);
         }
-        Neighbour::Elsewhere => {}
+        Nearby::Elsewhere => {}
     }
     // The slice and the answer of this call alone go through memory.
     let all = mem;

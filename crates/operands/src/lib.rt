@@ -11,7 +11,7 @@ ghost use Rattle.machine.specs.Words.{lengthOf, pick};
 ghost use Rattle.operands.specs.Answers.{SmallOperands, SmallTaken, TakesFrom, TakesMemory, TakesRegister};
 ghost use Rattle.operands.specs.Answers.{operandsAs, takenAs, takenFrom, takenWith, writtenBy};
 ghost use Rattle.reads.specs.Answers.{gotAs};
-ghost use Rattle.rules.specs.Rules.{rulesIn};
+ghost use Rattle.rules.specs.Rules.{readBy, rulesIn};
 use fetches::OperandBytes;
 use forms::Location;
 use machine::Access;
@@ -103,18 +103,27 @@ fn take_immediate(role: Role, place: u32, z: u32) -> Taken
     }
 }
 
-// From register x, in which the operand's value is n.
+// What a role takes of an operand's value: where it does not read, 0.
+pub fn number(role: Role, n: u32) -> u32
+    ensures { λ r. ⌜ r ≡ pick (readBy role) n 0 ⌝ }
+{
+    if rules::reads(role) { n } else { 0 }
+}
+
+// From register x, in which the operand's value is n. A register has no address.
 fn take_register(role: Role, place: u32, x: u32, n: u32) -> Taken
     requires { ⌜ x < 16 ⌝ }
     ensures value { λ r. ⌜ TakesRegister r place role x n ⌝ }
     ensures small { λ r. ⌜ SmallTaken r ⌝ }
 {
-    match role {
-        Role::Value => Taken::Got(n, Target::Nowhere),
-        Role::Address => Taken::Alarm(place, Alarm::Operand), // a register has none
-        Role::Destination => Taken::Got(0, Target::Register(x)),
-        Role::Update => Taken::Got(n, Target::Register(x)),
+    let v = number(role, n);
+    if rules::writes(role) {
+        return Taken::Got(v, Target::Register(x));
     }
+    if rules::reads(role) {
+        return Taken::Got(n, Target::Nowhere);
+    }
+    Taken::Alarm(place, Alarm::Operand)
 }
 
 // The value of a size at an address. Words are read in place, since they are most frequent.
@@ -205,7 +214,7 @@ fn take(
 // ---- All operands, left to right
 
 // The new number at its own place, else the old one.
-fn chosen(place: u32, own: u32, new: u32, old: u32) -> u32
+pub fn chosen(place: u32, own: u32, new: u32, old: u32) -> u32
     ensures { λ r. ⌜ r ≡ pick (eqb place own) new old ⌝ }
 {
     if place == own { new } else { old }

@@ -34,7 +34,7 @@ pub fn with_flags(status: u32, f: u32) -> u32
 }
 
 // A register with its last L bytes replaced.
-fn kept_rest(size: Size, old: u32, x: u32) -> u32
+pub fn kept_rest(size: Size, old: u32, x: u32) -> u32
     ensures { λ r. ⌜ r ≡ keptRest (lengthOf size) old x ⌝ }
 {
     match size {

@@ -2,7 +2,7 @@
 -- number of a list of rules; the table of these numbers, byte by byte; and the mode that a byte
 -- needs.
 use Prim.Native.Nat.{ℕ, zero, suc, _+_, _*_, _/_, _%_}
-use mathlib.Core.Bool.{Bool, _||_}
+use mathlib.Core.Bool.{Bool, true, false, _||_}
 use mathlib.Core.List.{List, [], _∷_}
 use mathlib.Core.Option.{Option, none, some}
 use lib.Dec.{eqb}
@@ -27,6 +27,10 @@ countIn n = n / 0x1000
 -- the size in the lowest digit: 1 for B, 2 for H, 3 for W
 abbrev pub sizeIn : ℕ → Size
 sizeIn n = pick (eqb (n % 4) 1) B (pick (eqb (n % 4) 2) H W)
+
+-- the size in the lowest digit is W
+abbrev pub wordIn : ℕ → Bool
+wordIn n = eqb (n % 4) 3
 
 -- the role in the lowest digit: 0 for a value, 1 for an address, 2 for a destination, 3 for an
 -- update
@@ -82,6 +86,29 @@ numbersFrom (suc k) b = rulesNumber (knownRules (known b)) ∷ numbersFrom k (su
 -- each byte from 0x00 to 0x7A, the last that is known
 unfoldable pub tableOf : List ℕ
 tableOf = numbersFrom 123 0
+
+-- ---- Roles
+
+-- a role takes its operand's address
+abbrev pub addressedBy : Role → Bool
+addressedBy Value = false
+addressedBy Address = true
+addressedBy Destination = false
+addressedBy Update = false
+
+-- a role takes its operand's value
+abbrev pub readBy : Role → Bool
+readBy Value = true
+readBy Address = false
+readBy Destination = false
+readBy Update = true
+
+-- a result goes to an operand of the role
+abbrev pub writtenTo : Role → Bool
+writtenTo Value = false
+writtenTo Address = false
+writtenTo Destination = true
+writtenTo Update = true
 
 -- ---- The mode
 

@@ -3,7 +3,8 @@
 ghost use mathlib.Core.Path.{_≡_};
 ghost use Prim.Native.Nat.{_<_};
 ghost use Rattle.machine.specs.Code.{known};
-ghost use Rattle.rules.specs.Rules.{countIn, forbiddenOf, knownRules, roleIn, rulesIn, sizeIn, tableOf};
+ghost use Rattle.rules.specs.Rules.{addressedBy, countIn, forbiddenOf, knownRules, readBy, roleIn, rulesIn};
+ghost use Rattle.rules.specs.Rules.{sizeIn, tableOf, wordIn, writtenTo};
 use machine::Role;
 use machine::Size;
 
@@ -183,6 +184,49 @@ pub fn role_in(rules: u32) -> Role
         1 => Role::Address,
         2 => Role::Destination,
         _ => Role::Update,
+    }
+}
+
+// Whether the next operand is a word.
+pub fn is_word(rules: u32) -> bool
+    ensures { λ r. ⌜ r ≡ wordIn rules ⌝ }
+{
+    rules % 4 == 3
+}
+
+// Whether a role takes its operand's address.
+pub fn addresses(role: Role) -> bool
+    ensures { λ r. ⌜ r ≡ addressedBy role ⌝ }
+{
+    match role {
+        Role::Value => false,
+        Role::Address => true,
+        Role::Destination => false,
+        Role::Update => false,
+    }
+}
+
+// Whether a role takes its operand's value.
+pub fn reads(role: Role) -> bool
+    ensures { λ r. ⌜ r ≡ readBy role ⌝ }
+{
+    match role {
+        Role::Value => true,
+        Role::Address => false,
+        Role::Destination => false,
+        Role::Update => true,
+    }
+}
+
+// Whether a command's result goes to an operand of the role.
+pub fn writes(role: Role) -> bool
+    ensures { λ r. ⌜ r ≡ writtenTo role ⌝ }
+{
+    match role {
+        Role::Value => false,
+        Role::Address => false,
+        Role::Destination => true,
+        Role::Update => true,
     }
 }
 

@@ -1,19 +1,19 @@
 -- A command's end is the step, where no interrupt is due; else the step enters the level that is.
-use Prim.Native.Nat.{ℕ, zero, suc, _+_, _^_, _≤_, _<_}
+use Prim.Native.Nat.{ℕ, zero, suc, _+_, _/_, _<_}
 use mathlib.Core.Path.{_≡_, refl, sym, ap, _∙_}
-use mathlib.Core.Bool.{Bool, true, false, _&&_}
+use mathlib.Core.Bool.{Bool, true, false}
+use native.Mathlib.Decide.{decLt}
 use native.Mathlib.Omega.{arith}
-use lib.ListN.{length}
+use borrow.Author.Tests.{lt-ltb, le-ltb}
 use Rattle.machine.specs.declared.Map.{Map}
 use Rattle.machine.specs.declared.Desk.{Desk}
-use Rattle.machine.specs.Words.{pick, Memory, wordAt}
-use Rattle.machine.specs.State.{Registers, userMode, levelOf, flagsOf, withoutLevel, systemBlockOf, validUserStatus}
-use Rattle.machine.specs.State.{blockFits, mapFits}
+use Rattle.machine.specs.Words.{pick, Memory}
+use Rattle.machine.specs.State.{Registers, userMode, levelOf, flagsOf, withoutLevel, systemBlockOf}
 use Rattle.machine.specs.Alarms.{OrAlarm, got, alarm}
-use Rattle.machine.specs.Map.{View, viewOf, viewBy, RealWrites, located, commit}
+use Rattle.machine.specs.Map.{View, viewOf, viewBy, RealWrites, located}
 use Rattle.machine.specs.Commands.{Done, Completion, done, ofMode, SystemCall, userCommand, KernelEffect, halts}
 use Rattle.machine.specs.Commands.{resumes, kernelCommand}
-use Rattle.machine.specs.Steps.{Outcome, stop, resume, Plan, enters, completed, due, userWritten, ofUserCommand}
+use Rattle.machine.specs.Steps.{resume, Plan, enters, completed, due, userWritten, ofUserCommand}
 use Rattle.machine.specs.Steps.{interrupted, userPlan, concluded, userStep, kernelWritten, ofKernelCommand}
 use Rattle.machine.specs.Steps.{kernelStep, oneStep}
 use Rattle.machine.specs.Calls.{Stepped}
@@ -72,6 +72,11 @@ module _ (d : Desk) (m : Memory) where
       go true u z = rw z (user-end u v (userCommand v (d .registers) (flagsOf (d .status))))
       go false u z = kernel-end u v (kernelCommand v (d .registers) (flagsOf (d .status)))
 
+  pub command-step : interruptOf (d .status) (d .pending) ≡ 0
+      → {e : End} → e ≡ execOf (d .status) (d .map) (d .registers) m → {s : Stepped} → s ≡ concludedEnd d m e
+      → s ≡ shown (oneStep d m) m
+  command-step none e g = g ∙ ap (concludedEnd d m) e ∙ sym (step-ends none)
+
   -- ---- An interrupt is due
 
   entered : (k : ℕ) (r : Registers) (p : ℕ) (c : Plan) → 0 < k
@@ -95,60 +100,15 @@ module _ (d : Desk) (m : Memory) where
       go true z = rw (← z) (ap (enteredBy d m) (entered k (d .registers) (d .pending) _ h))
       go false z = absurd (omega arith)
 
--- ---- A command that does not go on leaves the memory
+-- ---- Which level is due depends on mode and level alone
 
-abbrev Kept : Memory → End → Type 0
-Kept m (commandDone r s n) = Unit {0}
-Kept m (systemCalled x r n) = n ≡ m
-Kept m (halted r n) = n ≡ m
-Kept m (resumed a n) = n ≡ m
-Kept m (alarmed k x n) = n ≡ m
-
-written-kept : (s : ℕ) (m : Memory) (c : Done) (t : OrAlarm RealWrites) → Kept m (writtenEnd s m c t)
-written-kept s m c (got ws) = tt
-written-kept s m c (alarm n x) = refl
-
-user-kept : (s : ℕ) (m : Memory) (v : View) (t : OrAlarm (Completion SystemCall)) → Kept m (userEnd s m v t)
-user-kept s m v (got (done c)) = written-kept s m c (located v (c .writes))
-user-kept s m v (got (ofMode c)) = refl
-user-kept s m v (alarm n x) = refl
-
-kernel-kept : (s : ℕ) (m : Memory) (v : View) (t : OrAlarm (Completion KernelEffect)) → Kept m (kernelEnd s m v t)
-kernel-kept s m v (got (done c)) = written-kept s m c (located v (c .writes))
-kernel-kept s m v (got (ofMode (halts r))) = refl
-kernel-kept s m v (got (ofMode (resumes a))) = refl
-kernel-kept s m v (alarm n x) = refl
-
-exec-kept : (s : ℕ) (map : Map) (r : Registers) (m : Memory) → Kept m (execOf s map r m)
-unfolding execOf
-exec-kept s map r m = go (userMode s)
+pub same-level : (s t p : ℕ) → t / 0x10 ≡ s / 0x10 → interruptOf t p ≡ interruptOf s p
+unfolding interruptOf
+same-level s t p e = rw (e, same-mode (decLt s 0x8000_0000))
   where
-    v : View
-    v = viewBy s map m
-
-    go : (b : Bool) → Kept m
-        (pick b (userEnd s m v (userCommand v r (flagsOf s))) (kernelEnd s m v (kernelCommand v r (flagsOf s))))
-    go true = user-kept s m v (userCommand v r (flagsOf s))
-    go false = kernel-kept s m v (kernelCommand v r (flagsOf s))
-
--- ---- The end, concluded over the memory that the command left
-
-end-over : (d : Desk) (m : Memory) (o : Out) (w : Registers) (y : Memory) → Kept m (outAs o w y)
-    → concludedEnd d y (outAs o w y) ≡ concludedEnd d m (outAs o w y)
-unfolding concludedEnd
-end-over d m (out.Done s) w y k = refl
-end-over d m (out.System x) w y k = rw k
-end-over d m out.Halt w y k = rw k
-end-over d m (out.Resume a) w y k = rw k
-end-over d m (out.Alarm x n) w y k = rw k
-
-pub command-step : (d : Desk) (m : Memory) (o : Out) (w : Registers) (y : Memory)
-    → interruptOf (d .status) (d .pending) ≡ 0
-    → outAs o w y ≡ execOf (d .status) (d .map) (d .registers) m → (s : Stepped) → s ≡ concludedEnd d y (outAs o w y)
-    → s ≡ shown (oneStep d m) m
-command-step d m o w y none e s g =
-    let kept : Kept m (outAs o w y) = rw e (exec-kept (d .status) (d .map) (d .registers) m) in
-    g ∙ end-over d m o w y kept ∙ ap (concludedEnd d m) e ∙ sym (step-ends d m none)
+    same-mode : Dec (s < 0x8000_0000) → userMode t ≡ userMode s
+    same-mode (yes h) = rw (lt-ltb s 0x8000_0000, lt-ltb t 0x8000_0000 (omega arith))
+    same-mode (no f) = rw (le-ltb s 0x8000_0000 (omega arith), le-ltb t 0x8000_0000 (omega arith))
 
 -- ---- Only in kernel mode a command names a control block to resume from
 

@@ -32,9 +32,8 @@ fn made(count: u64, last: StepAnswer, desk: Desk) -> Progress
     Progress { count, last, desk }
 }
 
-// At most n steps, up to a stop. While commands end quietly, registers and status stay in locals;
-// all else goes through the whole desk. The only call of `exec` is here, so that it becomes part of
-// the loop; one step is a run of one.
+// At most n steps, up to a stop. Commands that end quietly run one after another; no level can
+// become due between them. All else goes through the whole desk; one step is a run of one.
 pub fn steps(d: Desk, mem: &mut [u8], n: u64) -> Progress
     requires { ⌜ stepRefusal d (length (now mem)) ≡ Answer.Accepted ⌝ }
     ensures all { λ r. ⌜ ran Answer.Accepted (r .count) (r .desk) (now (mem .exit))
@@ -44,41 +43,39 @@ pub fn steps(d: Desk, mem: &mut [u8], n: u64) -> Progress
 {
     let mut desk = d;
     let mut last = StepAnswer::Done;
-    let mut regs = d.registers;
-    let mut status = d.status;
     let mut count: u64 = 0;
-    let table = rules::table();
     while count < n {
-        count += 1;
-        let level = levels::interrupt(status, desk.pending);
+        let level = levels::interrupt(desk.status, desk.pending);
         if 0 < level {
-            let reply = entry::enter_level(running(desk, regs, status), mem, level);
+            let reply = entry::enter_level(desk, mem, level);
+            count += 1;
             desk = reply.desk;
             last = reply.answer;
         } else {
-            let saved = regs;
+            let registers = desk.registers;
             let map = desk.map;
-            let out = commands::exec(mem, &mut regs, status, map, &table);
+            let e = execution::exec(mem, registers, desk.status, map, n - count);
+            let quiet = e.registers;
+            let out = e.out;
+            count += e.count;
+            desk = running(desk, quiet, e.status);
+            last = StepAnswer::Done;
             match out {
-                Out::Done(s) => {
-                    status = s;
-                    last = StepAnswer::Done;
-                    continue;
-                }
+                Out::Done(_) => {}
                 _ => {
-                    let reply = entry::conclude(running(desk, saved, status), mem, regs, out);
+                    let work = e.work;
+                    let reply = entry::conclude(desk, mem, work, out);
+                    count += 1;
                     desk = reply.desk;
                     last = reply.answer;
                 }
             }
         }
-        regs = desk.registers;
-        status = desk.status;
         let mark = desk.mark;
         match mark {
             Mark::Running => {}
             Mark::Stopped(_) => return made(count, last, desk),
         }
     }
-    made(count, last, running(desk, regs, status))
+    made(count, last, desk)
 }

@@ -1,10 +1,10 @@
--- `exec` is right: it ends at the first alarm of byte, mode and operands, or with what `finish`
+-- `command` is right: it ends at the first alarm of byte, mode and operands, or with what `finish`
 -- makes of what the byte asks for.
 use mathlib.Core.Path.{sym, _∙_}
 use borrow.Author.Needs.{needs}
 use Rattle.commands.proofs.Laws.{exec-unfetched, exec-forbidden, exec-alarm, exec-action}
-use Rattle.commands.proofs.exec.Statement.{statement}
-use Rattle.commands.proofs.exec.Tie as tie
+use Rattle.commands.proofs.command.Statement.{statement}
+use Rattle.commands.proofs.command.Tie as tie
 
 returns : tie.Need-returns
 returns c =
@@ -76,8 +76,8 @@ returns-4 c =
       c .before .before .before .before .before .before .before .before .before .before .before .before .before .plus .ensures,
     ) at (c .before .before .before .before .before .before .before .before .before .take-all .ensures .0)))
 
-pub exec-spec : {M : Type 1} → statement M
-exec-spec =
+pub command-spec : {M : Type 1} → statement M
+command-spec =
     tie.close
     (tie.spec
     (λ c. search needs) (λ c κs. search needs) (λ c. search needs) (λ c. search needs) (λ c κs. search needs)

@@ -1,0 +1,60 @@
+-- A command whose operands are taken and whose end is known is carried out; one that is left has
+-- changed R15 alone, which is put back. The bytes from 10h on are commands of both modes.
+use Prim.Native.Nat.{ℕ, _≤_, _<_}
+use mathlib.Core.Path.{_≡_, ap, _∙_}
+use mathlib.Core.Bool.{Bool, true, false, _||_}
+use mathlib.Core.List.{List}
+use native.Mathlib.Omega.{arith}
+use borrow.Author.Tests.{ne-eqb}
+use lib.Dec.{eqb}
+use lib.ListN.{set}
+use lib.Seq.{set-set, set-getD}
+use Rattle.machine.specs.declared.Map.{Map}
+use Rattle.machine.specs.Words.{pick, Memory}
+use Rattle.machine.specs.State.{Registers, reg, userMode, flagsOf}
+use Rattle.machine.specs.Alarms.{got}
+use Rattle.machine.specs.declared.Access.the-variants.{Fetch}
+use Rattle.machine.specs.Map.{viewBy, readBytes}
+use Rattle.machine.specs.Code.{Rule, known}
+use Rattle.machine.specs.Operands.{past, Operands, operandsOf}
+use Rattle.rules.specs.Rules.{knownRules, forbiddenOf}
+use Rattle.actions.specs.Actions.{actionOf}
+use Rattle.results.specs.Ends.{End}
+use Rattle.commands.specs.Execution.{execOf, actionEnd}
+use Rattle.commands.proofs.Laws.{exec-action}
+use Rattle.sure.specs.Answers.{OnlyR15}
+use Rattle.quick.specs.declared.Quick.{Quick}
+use Rattle.quick.specs.declared.Quick.the-variants as quick
+use Rattle.quick.specs.Quietly.{Finishes, Carried, CarriesOut}
+
+pub carried : (s : ℕ) (map : Map) (b : ℕ) (ks : List Rule) (r : Registers) (m : Memory) (o : Operands)
+    → got o ≡ operandsOf (viewBy s map m) ks r → OnlyR15 r (o .registers) → (q : Registers) (n : Memory) (u : Quick)
+    → Finishes (actionEnd s m (viewBy s map m) (o .registers) (o .first) (o .target)
+    (actionOf b (flagsOf s) (o .first) (o .second))) (o .registers) m q n u → CarriesOut s map b ks r m q n u
+carried s map b ks r m o h only q n (quick.Done t) f = record { operands = o; taken = h; same = f }
+carried s map b ks r m o h only q n quick.Unsure f =
+    (record { r15 = only .r15; same = f .0 ∙ only .same }, f .1)
+
+pub put-back : (r q : Registers) (p : ℕ) → OnlyR15 (set r 15 p) q → set q 15 (reg r 15) ≡ r
+put-back r q p only =
+    rw (only .same, set-set (set r 15 p) 15 (only .r15) (reg r 15), set-set r 15 p (reg r 15)) (set-getD r 15 0)
+
+pub both-modes : (b s : ℕ) → 0x10 ≤ b → forbiddenOf b s ≡ false
+both-modes b s h = go (userMode s)
+  where
+    go : (u : Bool) → pick u (eqb b 0 || eqb b 5) (eqb b 3) ≡ false
+    go true =
+        let p : eqb b 0 ≡ false = ne-eqb b 0 (λ e. omega (arith, e)) in
+        let q : eqb b 5 ≡ false = ne-eqb b 5 (λ e. omega (arith, e)) in
+        rw (p, q)
+    go false = ne-eqb b 3 (λ e. omega (arith, e))
+
+-- what is carried out ends the command at R15
+pub carried-ends : (s : ℕ) (map : Map) (r : Registers) (m : Memory) (b : ℕ)
+    → got b ≡ readBytes (viewBy s map m) Fetch 1 (record { 0 = reg r 15 }) → b < 256 → 0x10 ≤ b
+    → (ks : List Rule) → ks ≡ knownRules (known b) → (q : Registers) → q ≡ past 1 r → (e : End)
+    → Carried s map b ks q m e → e ≡ execOf s map r m
+carried-ends s map r m b fetched l h ks rules q byte e c =
+    c .same ∙ exec-action s map r m b fetched l (both-modes b s h) (c .operands)
+    (c .taken ∙ ap (λ (k : List Rule). operandsOf (viewBy s map m) k q) rules
+    ∙ ap (operandsOf (viewBy s map m) (knownRules (known b))) byte)

@@ -1,0 +1,2 @@
+pub mod WordWritten
+pub mod Carrying

@@ -1,0 +1,44 @@
+-- `call` is right: where the word below the stack's top is found, R15 is written there and the
+-- command ends so; elsewhere nothing is done.
+use borrow.Author.Needs.{needs}
+use Rattle.machine.specs.declared.Access.the-variants.{Write}
+use Rattle.machine.specs.State.{reg, flagsOf}
+use Rattle.machine.specs.Commands.{called}
+use Rattle.results.proofs.Ends.{same-status}
+use Rattle.sure.specs.Answers.{WordAt}
+use Rattle.sure.proofs.FoundWords.{word-at, word-inside}
+use Rattle.quick.proofs.WordWritten.{word-written}
+use Rattle.quick.proofs.call.Statement.{statement}
+use Rattle.quick.proofs.call.Tie as tie
+
+-- the word at the lowered SP is found
+found : (c : tie.After-p) → let a = c .before .before .before .before .before .before .before .args in
+    WordAt (a .status) (a .map) (a .mem .now) (record { 0 = c .before .before .before .before .minus .result }) Write
+    (c .p .given .0 .0)
+found c = word-at (c .p .given .1) (c .before .before .find .ensures)
+
+value-to-requires : tie.Need-value-to-requires
+value-to-requires c κs =
+    word-inside (found (c .before .before .before .before))
+    (c .before .before .before .before .before .before .before .before .before .before .before .pre)
+
+returns : tie.Need-returns
+unfolding called
+returns c =
+    let lowers = c .before .before .before .before .before .before .before .before .before .before .before in
+    let start = lowers .before .before .before in
+    let a = start .args in
+    let sp = lowers .minus .ensures in
+    rw sp
+    (rw same-status
+    at (word-written (found (c .before .before .before .before .before .before .before)) (start .pre)
+    (called (a .a) (a .regs .now) (flagsOf (a .status))) (reg (a .regs .now) 15) (rw sp)
+    (c .before .before .value-to .ensures)))
+
+pub call-spec : {M : Type 1} → statement M
+call-spec =
+    tie.close
+    (tie.spec
+    (λ c. search needs) (λ c κs. search needs) (λ c κs. search needs) (λ c. search needs) (λ c. search needs)
+    (λ c. search needs) value-to-requires (λ c. search needs) (λ c. search needs) (λ c. search needs)
+    (λ c. search needs) returns (λ c. search needs) (λ c. search needs))

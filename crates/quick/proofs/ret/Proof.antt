@@ -1,0 +1,42 @@
+-- `ret` is right: where the word at SP is found, it goes to R15 and SP is raised; elsewhere nothing
+-- is done.
+use borrow.Author.Needs.{needs}
+use Rattle.machine.specs.declared.Access.the-variants.{Read}
+use Rattle.machine.specs.State.{reg}
+use Rattle.machine.specs.Map.{located, commit}
+use Rattle.machine.specs.Commands.{returned}
+use Rattle.reads.proofs.Reading.{read-virtual}
+use Rattle.results.proofs.Ends.{same-status}
+use Rattle.sure.specs.Answers.{WordAt}
+use Rattle.sure.proofs.FoundWords.{word-at, word-inside, word-read}
+use Rattle.quick.proofs.ret.Statement.{statement}
+use Rattle.quick.proofs.ret.Tie as tie
+
+-- the word at SP is found
+found : (c : tie.After-p) → let a = c .before .before .before .before .before .args in
+    WordAt (a .status) (a .map) (a .mem .now) (record { 0 = reg (a .regs .now) 14 }) Read (c .p .given .0 .0)
+found c = word-at (c .p .given .1) (c .before .before .find .ensures)
+
+word-requires : tie.Need-word-requires
+word-requires c κs =
+    word-inside (found (c .before .before)) (c .before .before .before .before .before .before .before .pre)
+
+returns : tie.Need-returns
+unfolding returned located commit
+returns c =
+    let start = c .before .before .before .before .before .before .before .before .before in
+    rw (
+      read-virtual,
+      word-read (found (c .before .before .before .before)) (start .pre),
+      same-status,
+      c .plus .ensures,
+      c .before .word .ensures,
+    )
+
+pub ret-spec : {M : Type 1} → statement M
+ret-spec =
+    tie.close
+    (tie.spec
+    (λ c. search needs) (λ c κs. search needs) (λ c. search needs) (λ c. search needs) word-requires
+    (λ c. search needs) (λ c κs. search needs) (λ c. search needs) (λ c. search needs) returns
+    (λ c. search needs))

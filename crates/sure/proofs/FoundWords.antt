@@ -1,0 +1,84 @@
+-- What is known of a word that was found: its address has 32 bits, it lies in memory, and it may be
+-- read there, for whatever reason it was looked up.
+use Prim.Native.Nat.{ℕ, _+_, _≤_, _<_}
+use mathlib.Core.Path.{_≡_, refl, sym, ap, _∙_}
+use mathlib.Core.Bool.{Bool, true, false}
+use native.Mathlib.Omega.{arith}
+use borrow.Author.Tests.{ltb-true}
+use lib.Dec.{ltb}
+use lib.ListN.{length}
+use Rattle.machine.specs.declared.Access.{Access}
+use Rattle.machine.specs.declared.Access.the-variants.{Read}
+use Rattle.machine.specs.declared.Alarm.{Alarm}
+use Rattle.machine.specs.declared.Map.{Map}
+use Rattle.machine.specs.declared.RealAddress.{RealAddress}
+use Rattle.machine.specs.declared.VirtualAddress.{VirtualAddress}
+use Rattle.machine.specs.Words.{pick, Memory, wordAt}
+use Rattle.machine.specs.State.{userMode}
+use Rattle.machine.specs.Alarms.{got, alarm}
+use Rattle.machine.specs.Map.{pageOf, mapEntry, present, frameOf, undamaged, Found, foundAt, inFrame, inNumberOrder}
+use Rattle.machine.specs.Map.{allows, mapped, unmapped, viewBy, readBytes}
+use Rattle.machine.proofs.Pages.{Finds, page-inside}
+use Rattle.machine.proofs.Views.{order-got}
+use Rattle.words.proofs.Values.{four-byte-value}
+use Rattle.lookup.specs.Answers.{Fits}
+use Rattle.reads.proofs.OnePage.{read-page}
+use Rattle.sure.specs.declared.Place.{Place}
+use Rattle.sure.specs.declared.Place.the-variants as place
+use Rattle.sure.specs.Answers.{WordAt, PlaceOf}
+
+-- an answer that names a place
+pub word-at : {s : ℕ} {map : Map} {m : Memory} {x : VirtualAddress} {w : Access} {a : RealAddress} {p : Place}
+    → p ≡ place.At a → PlaceOf s map m x w p → WordAt s map m x w a
+word-at e h = rw e at h
+
+-- ---- An address that is found has 32 bits: the map and the memory are small
+
+test-held : (b : Bool) (f g : Found) (k : Alarm) (y : ℕ) → pick b (got f) (alarm k y) ≡ got g → b ≡ true
+test-held true f g k y h = refl
+test-held false f g k y h = cc
+
+found-small : (s : ℕ) {map : Map} {m : Memory} (x : VirtualAddress) (w : Access) {f : Found} → Fits map m
+    → viewBy s map m x w ≡ got f → x .0 < 0x1_0000_0000
+unfolding viewBy mapped unmapped
+found-small s {map} {m} x w {f} fits = go (userMode s)
+  where
+    go : (u : Bool) → pick u (mapped map m) (unmapped m) x w ≡ got f → x .0 < 0x1_0000_0000
+    go true h = let below = ltb-true (pageOf x) (map .length) (order-got _ _ _ _ _ _ _ h .0) in omega arith
+    go false h =
+        let below = ltb-true (x .0) (length m) (test-held (ltb (x .0) (length m)) _ _ _ _ h) in omega arith
+
+-- ---- What is found for some reason may be read
+
+readable : (s : ℕ) (map : Map) (m : Memory) (x : VirtualAddress) (w : Access) (f : Found)
+    → viewBy s map m x w ≡ got f → viewBy s map m x Read ≡ got f
+unfolding viewBy mapped unmapped inNumberOrder allows
+readable s map m x w f = go (userMode s)
+  where
+    go : (u : Bool) → pick u (mapped map m) (unmapped m) x w ≡ got f
+        → pick u (mapped map m) (unmapped m) x Read ≡ got f
+    go true h =
+        let e = mapEntry map m (pageOf x) in
+        let t = order-got (ltb (pageOf x) (map .length)) (present e) (undamaged (length m) e) (allows w e) x
+        (foundAt m (inFrame (frameOf e) x)) f h in
+        rw (t .0, t .1, t .2) (ap got (t .4))
+    go false h = h
+
+-- ---- The word
+
+module _ {s : ℕ} {map : Map} {m : Memory} {x : VirtualAddress} {w : Access} {a : RealAddress}
+    (f : WordAt s map m x w a) (fits : Fits map m) where
+  pub finds : Finds s map m x w a
+  finds = record { small = found-small s x w fits (f .hit); whole = fits .whole; hit = f .hit }
+
+  pub word-inside : a .0 + 4 ≤ length m
+  word-inside = page-inside finds 4 (omega arith) (f .near)
+
+  pub word-read : readBytes (viewBy s map m) Read 4 x ≡ got (wordAt m (a .0))
+  word-read =
+      let read : Finds s map m x Read a = record {
+        small = finds .small;
+        whole = fits .whole;
+        hit = readable s map m x w _ (f .hit);
+      } in
+      read-page read 4 (f .near) ∙ ap got (sym (four-byte-value m (a .0)))

@@ -1,0 +1,3 @@
+pub mod FoundWords
+pub mod Taking
+pub mod Remaining
