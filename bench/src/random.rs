@@ -32,7 +32,7 @@ fn operand(rng: &mut Rng, size: u32) -> [u8; 6] {
     if !rng.chance(4) {
         match form {
             0 => (x, y) = (0, 0),
-            1 => (x, y, z) = (0, 0, if size < 4 { rng.below(1 << (8 * size)) } else { small_or_any(rng, z) }),
+            1 => (x, y, z) = (0, 0, number(rng, size, z)),
             2 => (y, z) = (0, 0),
             3 | 5 => y = 0,
             7 | 8 => (y, z) = (0, 0),
@@ -43,12 +43,13 @@ fn operand(rng: &mut Rng, size: u32) -> [u8; 6] {
     [form, x << 4 | y, z[0], z[1], z[2], z[3]]
 }
 
-/// A value near 0 on both sides, for shifts, or `any`.
-fn small_or_any(rng: &mut Rng, any: u32) -> u32 {
-    if rng.chance(50) {
-        rng.below(80).wrapping_sub(40)
+/// A value of form 1: near 0 on both sides, as shifts use it, or `any`; mostly of the size that is allowed.
+fn number(rng: &mut Rng, size: u32, any: u32) -> u32 {
+    let value = if rng.chance(50) { rng.below(80).wrapping_sub(40) } else { any };
+    if rng.chance(5) {
+        value
     } else {
-        any
+        value & u32::MAX >> (32 - 8 * size)
     }
 }
 
