@@ -1,6 +1,6 @@
-//! Rounds of slices: in each round every desk runs every loop in each of its memories for a while, with the simulators between,
-//! so that what else the machine does falls on all alike. Ratios are taken within a round of a loop, which lasts less
-//! than a second.
+//! Rounds of slices: in each round every desk runs every loop in each of its memories for a while, with the simulators
+//! between, so that what else the machine does falls on all alike. Ratios are taken within a round of a loop, which
+//! lasts less than a second.
 
 use crate::clock;
 use crate::contender::{Contender, CONTENDERS};
