@@ -1,7 +1,8 @@
 //! Before timing: every contender must come to the same end on every loop.
 
 use crate::contender::{Contender, CONTENDERS};
-use crate::loops::{Bench, Loop};
+use crate::layout::Bench;
+use crate::loops::Loop;
 use crate::state::State;
 
 /// What a run leaves.

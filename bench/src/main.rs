@@ -3,25 +3,31 @@
 mod check;
 mod clock;
 mod contender;
+mod layout;
 mod loops;
 mod measure;
 mod options;
 mod plain;
+mod programs;
 mod proved;
 #[cfg(test)]
 mod random;
 mod simh;
 mod state;
 mod table;
+mod vax;
 
-use loops::{Bench, Loop, LENGTHS, LOOPS};
+use layout::Bench;
+use loops::{Loop, LENGTHS};
 use options::{Options, Single};
 use std::process::ExitCode;
 
 fn main() -> ExitCode {
     let done = options::parse(std::env::args().skip(1)).and_then(|options| match options {
         Options::Single(single) => run_once(&single),
-        Options::Table { only, rounds } => print_table(&only.map_or(LOOPS.to_vec(), |which| vec![which]), rounds),
+        Options::Table { only, rounds } => {
+            print_table(&only.map_or_else(|| loops::all().collect(), |which| vec![which]), rounds)
+        }
     });
     match done {
         Ok(()) => ExitCode::SUCCESS,
@@ -47,8 +53,8 @@ fn run_once(single: &Single) -> Result<(), String> {
 
 fn print_table(loops: &[Loop], rounds: Option<usize>) -> Result<(), String> {
     for which in loops {
-        for length in LENGTHS {
-            check::check(*which, length)?;
+        for length in which.lengths() {
+            check::check(*which, *length)?;
         }
     }
     let simulators = simh::installed();

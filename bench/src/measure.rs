@@ -1,15 +1,16 @@
-//! Rounds of slices: in each round every desk runs every loop in every memory for a while, with the simulators between,
-//! so that what else the machine does falls on all alike. Ratios are taken within a round of a loop, which lasts less
-//! than a second.
+//! Rounds of slices: in each round every desk runs every loop in each of its memories for a while, with the simulators
+//! between, so that what else the machine does falls on all alike. Ratios are taken within a round of a loop, which
+//! lasts less than a second.
 
 use crate::clock;
 use crate::contender::{Contender, CONTENDERS};
-use crate::loops::{Bench, Loop, LENGTHS};
+use crate::layout::Bench;
+use crate::loops::Loop;
 use crate::simh::Vax;
 use std::time::{Duration, Instant};
 
 /// Where the number of rounds is not given: the time after which none begins, and how many there are at least.
-const TIME: Duration = Duration::from_secs(115);
+const TIME: Duration = Duration::from_secs(165);
 const LEAST_ROUNDS: usize = 8;
 
 /// CPU seconds of a slice of a desk. A round has three of them in each memory, with the simulators between.
@@ -25,18 +26,18 @@ type Speeds = Vec<f64>;
 pub struct Measured {
     pub which: Loop,
     /// By length of the memory, contender and round.
-    pub desks: [[Speeds; CONTENDERS.len()]; LENGTHS.len()],
-    /// By simulator and round.
+    pub desks: Vec<[Speeds; CONTENDERS.len()]>,
+    /// By simulator and round; empty where the loop has no program for the VAX.
     pub simulators: Vec<Speeds>,
 }
 
 /// A loop that is being measured.
 struct Track {
-    benches: [Bench; LENGTHS.len()],
+    /// By length of the memory.
+    benches: Vec<Bench>,
     /// Commands of a slice, by contender.
     counts: [u64; CONTENDERS.len()],
-    /// The simulators, with the turns of a slice.
-    vaxes: Vec<(Vax, u32)>,
+    vaxes: Vec<Vax>,
     measured: Measured,
 }
 
@@ -55,7 +56,7 @@ fn slice(bench: &mut Bench, contender: Contender, count: u64) -> Result<f64, Str
 impl Track {
     fn new(which: Loop, simulators: &[&'static str]) -> Result<Track, String> {
         const FIRST: u64 = 50_000;
-        let mut benches = LENGTHS.map(|length| Bench::new(which, length));
+        let mut benches: Vec<Bench> = which.lengths().iter().map(|length| Bench::new(which, *length)).collect();
         let mut counts = [0; CONTENDERS.len()];
         for (count, contender) in counts.iter_mut().zip(CONTENDERS) {
             let seconds = slice(&mut benches[0], contender, FIRST)?;
@@ -63,16 +64,15 @@ impl Track {
         }
         let mut vaxes = vec![];
         for simulator in simulators {
-            let vax = Vax::new(simulator, which)?;
-            let turns = vax.speed(500_000)? * SLICE_SIMH / which.commands_per_turn() as f64;
-            vaxes.push((vax, turns as u32));
+            vaxes.extend(Vax::new(simulator, which, SLICE_SIMH)?);
         }
-        let measured = Measured { which, desks: Default::default(), simulators: vec![vec![]; simulators.len()] };
+        let desks = benches.iter().map(|_| Default::default()).collect();
+        let measured = Measured { which, desks, simulators: vec![vec![]; vaxes.len()] };
         Ok(Track { benches, counts, vaxes, measured })
     }
 
     fn round(&mut self, round: usize) -> Result<(), String> {
-        let mut seconds = [[0.0; CONTENDERS.len()]; LENGTHS.len()];
+        let mut seconds = vec![[0.0; CONTENDERS.len()]; self.benches.len()];
         for part in 0..SLICES {
             for i in 0..CONTENDERS.len() {
                 // Another one begins each time.
@@ -81,8 +81,8 @@ impl Track {
                     seconds[i] += slice(bench, CONTENDERS[i], self.counts[i])?;
                 }
             }
-            if let Some((vax, turns)) = self.vaxes.get(part) {
-                self.measured.simulators[part].push(vax.speed(*turns)?);
+            if let Some(vax) = self.vaxes.get(part) {
+                self.measured.simulators[part].push(vax.speed()?);
             }
         }
         for (desks, seconds) in self.measured.desks.iter_mut().zip(seconds) {

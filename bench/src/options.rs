@@ -3,9 +3,9 @@
 use crate::contender::Contender;
 use crate::loops::Loop;
 
-pub const USAGE: &str = "bench/run [ROUNDS] [--loop LOOP]              the table, of one loop where named (default: as many rounds as 2 minutes allow)
+pub const USAGE: &str = "bench/run [ROUNDS] [--loop LOOP]              the table, of one loop where named (default: as many rounds as 3 minutes allow)
 bench/run --loop LOOP --count N [--desk DESK]  N commands of one desk, once, for a profiler
-LOOP: reg-kernel, reg-user, mem-kernel, mem-user; DESK: proved (default), bytewise, word, model";
+LOOP: reg, mem, small, stack, forms, jumps or three, and -kernel or -user; DESK: proved (default), bytewise, word, model";
 
 pub struct Single {
     pub which: Loop,

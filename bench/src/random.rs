@@ -14,14 +14,15 @@ const PAGES: u32 = 16;
 
 /// An address near the end of a page, or anywhere.
 fn address(rng: &mut Rng) -> u32 {
-    match rng.below(4) {
+    match rng.below(16) {
         0 => rng.word(),
-        1 => rng.below(LENGTH as u32 + 600),
+        1..=7 => rng.below(LENGTH as u32 + 60),
         _ => (512 * (1 + rng.below(PAGES))).wrapping_sub(rng.below(6)),
     }
 }
 
-fn operand(rng: &mut Rng) -> [u8; 6] {
+/// An operand for a value of so many bytes.
+fn operand(rng: &mut Rng, size: u32) -> [u8; 6] {
     let form = if rng.chance(3) { rng.below(256) as u8 } else { rng.below(9) as u8 };
     let (mut x, mut y, mut z) = (rng.below(16) as u8, rng.below(16) as u8, address(rng));
     if rng.chance(50) {
@@ -30,7 +31,8 @@ fn operand(rng: &mut Rng) -> [u8; 6] {
     // Mostly the fields that a form does not use are 0.
     if !rng.chance(4) {
         match form {
-            0 | 1 => (x, y) = (0, 0),
+            0 => (x, y) = (0, 0),
+            1 => (x, y, z) = (0, 0, number(rng, size, z)),
             2 => (y, z) = (0, 0),
             3 | 5 => y = 0,
             7 | 8 => (y, z) = (0, 0),
@@ -39,6 +41,25 @@ fn operand(rng: &mut Rng) -> [u8; 6] {
     }
     let z = z.to_be_bytes();
     [form, x << 4 | y, z[0], z[1], z[2], z[3]]
+}
+
+/// A value of form 1: near 0 on both sides, as shifts use it, or `any`; mostly of the size that is allowed.
+fn number(rng: &mut Rng, size: u32, any: u32) -> u32 {
+    let value = if rng.chance(50) { rng.below(80).wrapping_sub(40) } else { any };
+    if rng.chance(5) {
+        value
+    } else {
+        value & u32::MAX >> (32 - 8 * size)
+    }
+}
+
+/// A command that plain Rust covers, or now and then any byte.
+fn code(rng: &mut Rng, covered: &[u8]) -> u8 {
+    match rng.below(40) {
+        0 => rng.word() as u8,
+        1..=4 => rng.pick(&[0x01, 0x02, 0x79, 0x7A]),
+        _ => rng.pick(covered),
+    }
 }
 
 fn put(memory: &mut [u8], address: u32, word: u32) {
@@ -73,16 +94,13 @@ fn case(rng: &mut Rng) -> (Vec<u8>, State) {
     }
     let start = 1024 + rng.below(600);
     let mut at = start as usize;
+    let covered: Vec<u8> = (0..=255).filter(|byte| plain::covers(*byte)).collect();
     for _ in 0..12 {
-        let code = match rng.below(40) {
-            0 => rng.word() as u8,
-            1 => 0,
-            k => [0x12, 0x42, 0x4A, 0x66, 0x70 + rng.below(9) as u8][k as usize % 5],
-        };
+        let code = code(rng, &covered);
         memory[at] = code;
         at += 1;
-        for _ in 0..if code < 0x70 { 2 } else { 1 } {
-            memory[at..at + 6].copy_from_slice(&operand(rng));
+        for (_, size) in model::code::decode(code).map_or(vec![], |command| command.operands) {
+            memory[at..at + 6].copy_from_slice(&operand(rng, size));
             at += 6;
         }
     }
@@ -112,12 +130,14 @@ fn next_byte(memory: &[u8], state: &State) -> Option<u8> {
 fn random_programs() {
     let mut rng = Rng::new(1);
     let mut numbers = [0u64; 33];
-    for case_number in 0..40_000 {
+    let mut done = [0u64; 256];
+    for case_number in 0..60_000 {
         let (mut memory, mut state) = case(&mut rng);
         let first = (memory.clone(), state);
         let mut steps = 0;
         while steps < 12 && state.stopped == RUNNING {
-            if next_byte(&memory, &state).is_some_and(|b| model::code::decode(b).is_some() && !plain::covers(b)) {
+            let byte = next_byte(&memory, &state);
+            if byte.is_some_and(|b| model::code::decode(b).is_some() && !plain::covers(b)) {
                 break;
             }
             let before = (memory.clone(), state);
@@ -129,6 +149,11 @@ fn random_programs() {
                 assert!(other_memory == memory, "case {case_number}, step {steps}: {contender:?}, memory");
             }
             steps += 1;
+            if let Some(byte) =
+                byte.filter(|_| state.stopped == RUNNING && state.status & KERNEL == before.1.status & KERNEL)
+            {
+                done[byte as usize] += 1;
+            }
         }
         numbers[if state.stopped == RUNNING { 32 } else { state.stopped as usize % 32 }] += 1;
         for contender in CONTENDERS {
@@ -141,6 +166,10 @@ fn random_programs() {
     // Every stop of a covered command was met: 8 in kernel mode, 12, 14, 16, HALT, and runs that go on.
     for number in [0, 8, 12, 14, 16, 32] {
         assert!(numbers[number] > 100, "stop {number}: {numbers:?}");
+    }
+    // So was the quiet end of every covered command.
+    for byte in (1..=255).filter(|byte| plain::covers(*byte)) {
+        assert!(done[byte as usize] > 100, "{byte:02X}h: {done:?}");
     }
 }
 

@@ -1,18 +1,12 @@
-//! The same loops on simh's VAX, one instruction for each command:
-//!
-//!         register loop                       memory loop
-//!         ADD W  R1,R2     ADDL2 R1,R2        ADD W  0+R5,4+R5    ADDL2 (R5),4(R5)
-//!         SUB W  I 1,R0    SUBL2 #1,R0        SUB W  I 1,16+R5    SUBL2 #1,16(R5)
-//!         CMP W  I 0,R0    CMPL  #0,R0        MOVE W 4+R5,12+R5   MOVL  4(R5),12(R5)
-//!         JNE    loop      BNEQ  loop         CMP W  I 0,16+R5    CMPL  #0,16(R5)
-//!                                             JNE    loop         BNEQ  loop
-//!
-//! After the last turn stands HALT. For kernel mode the VAX runs in kernel mode with memory mapping off; for user mode
-//! in user mode with mapping on, all pages being system pages that users may write, and HALT traps to the kernel, where
-//! another HALT ends it.
+//! The loops on simh's VAX (`vax.rs` has its programs). For kernel mode the VAX runs in kernel mode with memory mapping
+//! off; for user mode in user mode with mapping on, all pages being system pages that users may write, and the loop's
+//! HALT traps to the kernel, where another HALT ends it. At its end it must have the registers and data of a desk.
 
 use crate::clock;
-use crate::loops::{Kind, Loop, Mode};
+use crate::contender::Contender;
+use crate::layout::{registers, values, Bench};
+use crate::loops::{Loop, Mode, LENGTHS};
+use crate::vax::program;
 use std::fmt::Write;
 use std::process::{Command, Output, Stdio};
 
@@ -43,37 +37,31 @@ const PAGES: u32 = 128;
 /// Where the system pages begin in virtual memory.
 const SYSTEM: u32 = 0x8000_0000;
 
-fn program(kind: Kind) -> Vec<u8> {
-    let mut code: Vec<u8> = match kind {
-        Kind::Register => vec![
-            0xC0, 0x51, 0x52, // ADDL2 R1,R2
-            0xC2, 0x01, 0x50, // SUBL2 #1,R0
-            0xD1, 0x00, 0x50, // CMPL #0,R0
-        ],
-        Kind::Memory => vec![
-            0xC0, 0x65, 0xA5, 0x04, // ADDL2 (R5),4(R5)
-            0xC2, 0x01, 0xA5, 0x10, // SUBL2 #1,16(R5)
-            0xD0, 0xA5, 0x04, 0xA5, 0x0C, // MOVL 4(R5),12(R5)
-            0xD1, 0x00, 0xA5, 0x10, // CMPL #0,16(R5)
-        ],
-    };
-    let back = 0u8.wrapping_sub(code.len() as u8 + 2);
-    code.extend([0x12, back, 0x00]); // BNEQ loop; HALT
-    code
+/// The registers, and the data by offset and count of bytes, that are compared at the end: those without addresses.
+const REGISTERS: [usize; 8] = [0, 2, 3, 4, 6, 9, 10, 11];
+const RESULTS: [(u32, usize); 9] = [(4, 4), (12, 4), (16, 4), (48, 4), (64, 4), (160, 4), (84, 1), (88, 2), (92, 1)];
+
+/// The simulator's letter for a count of bytes.
+fn letter(count: usize) -> char {
+    match count {
+        1 => 'b',
+        2 => 'w',
+        _ => 'l',
+    }
 }
 
-/// The simulator's commands for a loop of that many turns.
-fn script(which: Loop, turns: u32) -> String {
-    let user = which.mode == Mode::User;
+/// The simulator's commands for a program of that many turns.
+fn script(mode: Mode, program: &[u8], turns: u32) -> String {
+    let user = mode == Mode::User;
     let mut lines = String::new();
     let mut line = |text: std::fmt::Arguments| writeln!(lines, "{text}").expect("a string can be written");
-    for (i, byte) in program(which.kind).iter().enumerate() {
+    for (i, byte) in program.iter().enumerate() {
         line(format_args!("d -b {:X} {byte:X}", PROGRAM as usize + i));
     }
-    for (offset, word) in [(0, 3), (4, 0), (12, 0), (16, turns)] {
-        line(format_args!("d -l {:X} {word:X}", DATA + offset));
-    }
     let base = if user { SYSTEM } else { 0 };
+    for (offset, count, value) in values(turns, base + DATA) {
+        line(format_args!("d -{} {:X} {value:X}", letter(count), DATA + offset));
+    }
     if user {
         for page in 0..PAGES {
             // Valid, written to, and writable by users.
@@ -84,70 +72,100 @@ fn script(which: Loop, turns: u32) -> String {
         line(format_args!("d sbr {PAGE_TABLE:X}\nd slr {PAGES:X}\nd mapen 1\nd scbb {VECTORS:X}"));
         line(format_args!("d ksp {:X}", base + STACKS - 0x800));
     }
-    line(format_args!("d r0 {turns:X}\nd r1 3\nd r2 0\nd r5 {:X}\nd sp {:X}", base + DATA, base + STACKS));
-    line(format_args!("d psl {}", if user { "03C00000" } else { "041F0000" }));
-    line(format_args!("d pc {:X}\ngo", base + PROGRAM));
-    line(format_args!("e pc\ne r0\ne r2\ne mapen\ne -l {:X}\ne -l {:X}\nexit", DATA + 12, DATA + 16));
+    for (i, value) in registers(turns, base + DATA).iter().take(12).enumerate() {
+        line(format_args!("d r{i} {value:X}"));
+    }
+    line(format_args!("d sp {:X}\nd psl {}", base + STACKS, if user { "03C00000" } else { "041F0000" }));
+    line(format_args!("d pc {:X}\ngo\ne pc\ne mapen", base + PROGRAM));
+    for i in REGISTERS {
+        line(format_args!("e r{i}"));
+    }
+    for (offset, count) in RESULTS {
+        line(format_args!("e -{} {:X}", letter(count), DATA + offset));
+    }
+    line(format_args!("exit"));
     lines
 }
 
-/// What the simulator must show at the end.
-fn expected(which: Loop, turns: u32) -> Vec<String> {
-    let sum = turns.wrapping_mul(3);
+/// What the simulator must show at the end: what plain Rust has then, which agrees with the other desks.
+fn expected(which: Loop, program: &[u8], turns: u32) -> Result<Vec<String>, String> {
+    let mut bench = Bench::new(which, LENGTHS[0]);
+    let mut state = bench.start(turns);
+    let steps = Contender::Word.run(&mut bench.memory, &mut state, u64::MAX);
+    if steps != Ok(which.steps(turns)) {
+        return Err(format!("{}: {steps:?} steps for {turns} turns", which.name()));
+    }
     let end = match which.mode {
-        Mode::Kernel => PROGRAM + program(which.kind).len() as u32,
+        Mode::Kernel => PROGRAM + program.len() as u32,
         Mode::User => SYSTEM + TRAP + 1,
     };
-    let (r0, r2, total, left) = match which.kind {
-        Kind::Register => (0, sum, 0, turns),
-        Kind::Memory => (turns, 0, sum, 0),
-    };
-    vec![
-        "HALT instruction".into(),
-        format!("PC:\t{end:08X}"),
-        format!("R0:\t{r0:08X}"),
-        format!("R2:\t{r2:08X}"),
-        format!("MAPEN:\t{}", u32::from(which.mode == Mode::User)),
-        format!("{:X}:\t{total:08X}", DATA + 12),
-        format!("{:X}:\t{left:08X}", DATA + 16),
-    ]
+    let mut lines = vec!["HALT instruction".into(), format!("PC:\t{end:08X}")];
+    lines.push(format!("MAPEN:\t{}", u32::from(which.mode == Mode::User)));
+    lines.extend(REGISTERS.map(|i| format!("R{i}:\t{:08X}", state.registers[i])));
+    lines.extend(RESULTS.map(|(offset, count)| {
+        format!("{:X}:\t{:0width$X}", DATA + offset, bench.value(offset, count), width = 2 * count)
+    }));
+    Ok(lines)
 }
 
-/// CPU seconds of the whole process, start-up included.
-fn run(simulator: &str, which: Loop, turns: u32) -> Result<f64, String> {
-    let script = script(which, turns);
-    let before = clock::children();
-    let output = simulate(simulator, &script).map_err(|e| format!("{simulator}: {e}"))?;
-    let seconds = clock::children() - before;
-    let text = String::from_utf8_lossy(&output.stdout);
-    for line in expected(which, turns) {
-        if !text.contains(&line) {
-            return Err(format!("{simulator} {}: no '{line}' in\n{text}", which.name()));
+/// A run of so many turns.
+struct Run {
+    simulator: &'static str,
+    which: Loop,
+    turns: u32,
+    script: String,
+    expected: Vec<String>,
+}
+
+impl Run {
+    fn new(simulator: &'static str, which: Loop, program: &[u8], turns: u32) -> Result<Run, String> {
+        let script = script(which.mode, program, turns);
+        Ok(Run { simulator, which, turns, script, expected: expected(which, program, turns)? })
+    }
+
+    fn commands(&self) -> f64 {
+        (self.which.commands_per_turn() * u64::from(self.turns)) as f64
+    }
+
+    /// CPU seconds of the whole process, start-up included.
+    fn seconds(&self) -> Result<f64, String> {
+        let before = clock::children();
+        let output = simulate(self.simulator, &self.script).map_err(|e| format!("{}: {e}", self.simulator))?;
+        let seconds = clock::children() - before;
+        let text = String::from_utf8_lossy(&output.stdout);
+        match self.expected.iter().find(|line| !text.contains(*line)) {
+            Some(line) => Err(format!("{} {}: no '{line}' in\n{text}", self.simulator, self.which.name())),
+            None => Ok(seconds),
         }
     }
-    Ok(seconds)
 }
 
 /// A simulator on a loop, with the cost of its start-up.
 pub struct Vax {
-    simulator: &'static str,
-    which: Loop,
+    run: Run,
     start_up: f64,
 }
 
 impl Vax {
-    pub fn new(simulator: &'static str, which: Loop) -> Result<Vax, String> {
+    /// With turns for about so many CPU seconds; none where the loop has no program for the VAX.
+    pub fn new(simulator: &'static str, which: Loop, seconds: f64) -> Result<Option<Vax>, String> {
+        const FIRST: u32 = 300_000;
+        let Some(program) = program(which.kind) else { return Ok(None) };
+        let one = Run::new(simulator, which, program, 1)?;
         let mut costs = vec![];
         for _ in 0..9 {
-            costs.push(run(simulator, which, 1)?);
+            costs.push(one.seconds()?);
         }
         costs.sort_by(f64::total_cmp);
-        Ok(Vax { simulator, which, start_up: costs[costs.len() / 2] })
+        let start_up = costs[costs.len() / 2];
+        let first = Run::new(simulator, which, program, FIRST)?;
+        let turns = f64::from(FIRST) * seconds / (first.seconds()? - start_up);
+        let run = Run::new(simulator, which, program, turns as u32)?;
+        Ok(Some(Vax { run, start_up }))
     }
 
     /// Instructions a second, start-up not counted.
-    pub fn speed(&self, turns: u32) -> Result<f64, String> {
-        let seconds = run(self.simulator, self.which, turns)? - self.start_up;
-        Ok((self.which.commands_per_turn() * u64::from(turns)) as f64 / seconds)
+    pub fn speed(&self) -> Result<f64, String> {
+        Ok(self.run.commands() / (self.run.seconds()? - self.start_up))
     }
 }

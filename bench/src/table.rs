@@ -1,7 +1,7 @@
 //! The table.
 
 use crate::contender::{Contender, CONTENDERS};
-use crate::loops::{Kind, Mode, LENGTHS};
+use crate::loops::LENGTHS;
 use crate::measure::Measured;
 
 /// The value at a part of the way through the sorted values.
@@ -32,7 +32,7 @@ fn size(length: usize) -> String {
 }
 
 impl Measured {
-    /// The speeds of a desk in the memory of this place in `LENGTHS`.
+    /// The speeds of a desk in the memory of this place in the loop's lengths.
     fn desk(&self, memory: usize, contender: Contender) -> &[f64] {
         let at = CONTENDERS.iter().position(|c| *c == contender).expect("every contender is measured");
         &self.desks[memory][at]
@@ -52,9 +52,9 @@ impl Measured {
             None => ("-".into(), "-".into()),
         };
         [
-            if self.which.kind == Kind::Register { "register" } else { "memory" }.into(),
-            if self.which.mode == Mode::Kernel { "kernel" } else { "user" }.into(),
-            size(LENGTHS[memory]),
+            self.which.kind.title().into(),
+            self.which.mode.name().into(),
+            size(self.which.lengths()[memory]),
             best(proved),
             best(desk(Contender::Bytewise)),
             best(desk(Contender::Word)),
@@ -95,16 +95,12 @@ pub fn print(loops: &[Measured], simulators: &[&str]) {
     line(&HEAD.map(|(name, _)| name.into()));
     line(&HEAD.map(|(_, width)| "-".repeat(width)));
     for measured in loops {
-        for memory in 0..LENGTHS.len() {
+        for memory in 0..measured.desks.len() {
             line(&measured.row(memory, simulators));
         }
     }
     println!();
-    println!("proved, {} against {}: the same ratio.", size(LENGTHS[1]), size(LENGTHS[0]));
-    for measured in loops {
-        let growth = ratio(measured.desk(1, Contender::Proved), measured.desk(0, Contender::Proved));
-        println!("    {:<10} {growth}", measured.which.name());
-    }
+    print_growth(loops);
     println!("bytewise, word: plain Rust that looks up every byte, or a word once. model: the Rust model in model/.");
     match simulators {
         [] => println!("simh is not installed (Debian: apt-get install simh), so its columns are empty."),
@@ -113,5 +109,17 @@ pub fn print(loops: &[Measured], simulators: &[&str]) {
             "simh: of {} the faster one on that loop; its mapping is on for user mode.",
             simulators.join(" and ")
         ),
+    }
+}
+
+/// The loops that are measured in both memories.
+fn print_growth(loops: &[Measured]) {
+    let mut both = loops.iter().filter(|measured| measured.desks.len() == LENGTHS.len()).peekable();
+    if both.peek().is_some() {
+        println!("proved, {} against {}: the same ratio.", size(LENGTHS[1]), size(LENGTHS[0]));
+    }
+    for measured in both {
+        let growth = ratio(measured.desk(1, Contender::Proved), measured.desk(0, Contender::Proved));
+        println!("    {:<10} {growth}", measured.which.name());
     }
 }

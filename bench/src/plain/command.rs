@@ -1,30 +1,75 @@
 //! One command: byte, mode, operands, operation, write, flags.
 
+use super::arithmetic::{compare, operate, Outcome, C, N, V, Z};
+use super::arithmetic::{ADD, ANDNOT, MULT, OR, SH, SUB, XOR};
 use super::memory::byte;
 use super::operand::{address, target, value};
-use super::Alarm;
+use super::{stack, Alarm};
 use crate::state::{State, KERNEL};
 
-const N: u32 = 8;
-const Z: u32 = 4;
-const V: u32 = 2;
-const C: u32 = 1;
-
 const HALT: u8 = 0x00;
-const MOVE: u8 = 0x12;
-const ADD: u8 = 0x42;
-const SUB: u8 = 0x4A;
-const CMP: u8 = 0x66;
+const PUSHR: u8 = 0x01;
+const POPR: u8 = 0x02;
+const CALL: u8 = 0x79;
+const RET: u8 = 0x7A;
 
 /// Whether the command of this byte is covered.
 #[cfg(test)]
 pub fn covers(byte: u8) -> bool {
-    matches!(byte, HALT | MOVE | ADD | SUB | CMP | 0x70..=0x78)
+    match byte {
+        HALT | PUSHR | POPR | 0x10..=0x12 | SH | 0x64..=0x66 | 0x70..=0x78 | CALL | RET => true,
+        0x28..=0x57 => byte % 4 != 3,
+        _ => false,
+    }
 }
 
-fn set_flags(desk: &mut State, n: bool, z: bool, v: bool, c: bool) {
-    let flags = u32::from(n) << 3 | u32::from(z) << 2 | u32::from(v) << 1 | u32::from(c);
-    desk.status = desk.status & !15 | flags;
+/// MOVE.
+#[inline(never)]
+fn copy<const ONE_LOOKUP: bool, const SIZE: usize>(memory: &mut [u8], desk: &mut State) -> Result<(), Alarm> {
+    let a = value::<ONE_LOOKUP, SIZE>(memory, desk, 1)?;
+    let target = target::<ONE_LOOKUP, SIZE>(memory, desk, 2)?;
+    target.write::<ONE_LOOKUP, SIZE>(memory, desk, a)?;
+    Outcome::of::<SIZE>(a).set_flags(desk);
+    Ok(())
+}
+
+/// CMP.
+#[inline(never)]
+fn cmp<const ONE_LOOKUP: bool, const SIZE: usize>(memory: &mut [u8], desk: &mut State) -> Result<(), Alarm> {
+    let a = value::<ONE_LOOKUP, SIZE>(memory, desk, 1)?;
+    let b = value::<ONE_LOOKUP, SIZE>(memory, desk, 2)?;
+    compare::<SIZE>(desk, a, b);
+    Ok(())
+}
+
+/// OR, ANDNOT, XOR, ADD, SUB, MULT: value, update.
+#[inline(never)]
+fn two<const ONE_LOOKUP: bool, const SIZE: usize, const OPERATION: u8>(
+    memory: &mut [u8],
+    desk: &mut State,
+) -> Result<(), Alarm> {
+    let a = value::<ONE_LOOKUP, SIZE>(memory, desk, 1)?;
+    let target = target::<ONE_LOOKUP, SIZE>(memory, desk, 2)?;
+    let b = target.read::<ONE_LOOKUP, SIZE>(memory, desk)?;
+    let outcome = operate::<SIZE, OPERATION>(a, b);
+    target.write::<ONE_LOOKUP, SIZE>(memory, desk, outcome.value::<SIZE>())?;
+    outcome.set_flags(desk);
+    Ok(())
+}
+
+/// The same and SH: value, value, destination.
+#[inline(never)]
+fn three<const ONE_LOOKUP: bool, const SIZE: usize, const OPERATION: u8>(
+    memory: &mut [u8],
+    desk: &mut State,
+) -> Result<(), Alarm> {
+    let a = value::<ONE_LOOKUP, SIZE>(memory, desk, 1)?;
+    let b = value::<ONE_LOOKUP, SIZE>(memory, desk, 2)?;
+    let target = target::<ONE_LOOKUP, SIZE>(memory, desk, 3)?;
+    let outcome = operate::<SIZE, OPERATION>(a, b);
+    target.write::<ONE_LOOKUP, SIZE>(memory, desk, outcome.value::<SIZE>())?;
+    outcome.set_flags(desk);
+    Ok(())
 }
 
 #[inline(always)]
@@ -33,40 +78,67 @@ pub fn command<const ONE_LOOKUP: bool>(memory: &mut [u8], desk: &mut State) -> R
     let code = byte(memory, desk, start)?;
     desk.registers[15] = start.wrapping_add(1);
     match code {
-        HALT if desk.status & KERNEL == 0 => return Err(Alarm(13, 0)),
-        HALT => desk.stopped = 0,
-        MOVE => {
-            let a = value::<ONE_LOOKUP>(memory, desk, 1)?;
-            let target = target::<ONE_LOOKUP>(memory, desk, 2)?;
-            target.write::<ONE_LOOKUP>(memory, desk, a)?;
-            set_flags(desk, (a as i32) < 0, a == 0, false, false);
+        HALT if desk.status & KERNEL == 0 => Err(Alarm(13, 0)),
+        HALT => {
+            desk.stopped = 0;
+            Ok(())
         }
-        ADD | SUB => {
-            let a = value::<ONE_LOOKUP>(memory, desk, 1)?;
-            let target = target::<ONE_LOOKUP>(memory, desk, 2)?;
-            let b = target.read::<ONE_LOOKUP>(memory, desk)?;
-            let ((result, carry), overflow) = if code == ADD {
-                (b.overflowing_add(a), (b as i32).overflowing_add(a as i32).1)
-            } else {
-                (b.overflowing_sub(a), (b as i32).overflowing_sub(a as i32).1)
-            };
-            target.write::<ONE_LOOKUP>(memory, desk, result)?;
-            set_flags(desk, (result as i32) < 0, result == 0, overflow, carry);
-        }
-        CMP => {
-            let a = value::<ONE_LOOKUP>(memory, desk, 1)?;
-            let b = value::<ONE_LOOKUP>(memory, desk, 2)?;
-            set_flags(desk, (a as i32) < (b as i32), a == b, false, false);
-        }
+        PUSHR => stack::push_all::<ONE_LOOKUP>(memory, desk),
+        POPR => stack::pop_all::<ONE_LOOKUP>(memory, desk),
+        0x10 => copy::<ONE_LOOKUP, 1>(memory, desk),
+        0x11 => copy::<ONE_LOOKUP, 2>(memory, desk),
+        0x12 => copy::<ONE_LOOKUP, 4>(memory, desk),
+        0x28 => two::<ONE_LOOKUP, 1, OR>(memory, desk),
+        0x29 => two::<ONE_LOOKUP, 2, OR>(memory, desk),
+        0x2A => two::<ONE_LOOKUP, 4, OR>(memory, desk),
+        0x2C => three::<ONE_LOOKUP, 1, OR>(memory, desk),
+        0x2D => three::<ONE_LOOKUP, 2, OR>(memory, desk),
+        0x2E => three::<ONE_LOOKUP, 4, OR>(memory, desk),
+        0x30 => two::<ONE_LOOKUP, 1, ANDNOT>(memory, desk),
+        0x31 => two::<ONE_LOOKUP, 2, ANDNOT>(memory, desk),
+        0x32 => two::<ONE_LOOKUP, 4, ANDNOT>(memory, desk),
+        0x34 => three::<ONE_LOOKUP, 1, ANDNOT>(memory, desk),
+        0x35 => three::<ONE_LOOKUP, 2, ANDNOT>(memory, desk),
+        0x36 => three::<ONE_LOOKUP, 4, ANDNOT>(memory, desk),
+        0x38 => two::<ONE_LOOKUP, 1, XOR>(memory, desk),
+        0x39 => two::<ONE_LOOKUP, 2, XOR>(memory, desk),
+        0x3A => two::<ONE_LOOKUP, 4, XOR>(memory, desk),
+        0x3C => three::<ONE_LOOKUP, 1, XOR>(memory, desk),
+        0x3D => three::<ONE_LOOKUP, 2, XOR>(memory, desk),
+        0x3E => three::<ONE_LOOKUP, 4, XOR>(memory, desk),
+        0x40 => two::<ONE_LOOKUP, 1, ADD>(memory, desk),
+        0x41 => two::<ONE_LOOKUP, 2, ADD>(memory, desk),
+        0x42 => two::<ONE_LOOKUP, 4, ADD>(memory, desk),
+        0x44 => three::<ONE_LOOKUP, 1, ADD>(memory, desk),
+        0x45 => three::<ONE_LOOKUP, 2, ADD>(memory, desk),
+        0x46 => three::<ONE_LOOKUP, 4, ADD>(memory, desk),
+        0x48 => two::<ONE_LOOKUP, 1, SUB>(memory, desk),
+        0x49 => two::<ONE_LOOKUP, 2, SUB>(memory, desk),
+        0x4A => two::<ONE_LOOKUP, 4, SUB>(memory, desk),
+        0x4C => three::<ONE_LOOKUP, 1, SUB>(memory, desk),
+        0x4D => three::<ONE_LOOKUP, 2, SUB>(memory, desk),
+        0x4E => three::<ONE_LOOKUP, 4, SUB>(memory, desk),
+        0x50 => two::<ONE_LOOKUP, 1, MULT>(memory, desk),
+        0x51 => two::<ONE_LOOKUP, 2, MULT>(memory, desk),
+        0x52 => two::<ONE_LOOKUP, 4, MULT>(memory, desk),
+        0x54 => three::<ONE_LOOKUP, 1, MULT>(memory, desk),
+        0x55 => three::<ONE_LOOKUP, 2, MULT>(memory, desk),
+        0x56 => three::<ONE_LOOKUP, 4, MULT>(memory, desk),
+        SH => three::<ONE_LOOKUP, 4, SH>(memory, desk),
+        0x64 => cmp::<ONE_LOOKUP, 1>(memory, desk),
+        0x65 => cmp::<ONE_LOOKUP, 2>(memory, desk),
+        0x66 => cmp::<ONE_LOOKUP, 4>(memory, desk),
         0x70..=0x78 => {
             let address = address::<ONE_LOOKUP>(memory, desk, 1)?;
             if taken(code, desk.status) {
                 desk.registers[15] = address;
             }
+            Ok(())
         }
-        _ => return Err(Alarm(12, u32::from(code))),
+        CALL => stack::call::<ONE_LOOKUP>(memory, desk),
+        RET => stack::ret::<ONE_LOOKUP>(memory, desk),
+        _ => Err(Alarm(12, u32::from(code))),
     }
-    Ok(())
 }
 
 /// Whether the jump 70h to 78h is taken at this status.

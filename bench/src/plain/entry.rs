@@ -9,8 +9,8 @@ const LONGEST: u64 = 16_777_216;
 /// Refusals 1 to 5 and 7, in number order.
 pub fn refusal(memory: &[u8], desk: &State) -> Result<(), u32> {
     let length = memory.len() as u64;
-    let fits = |address: u32, bytes: u64| address % 4 == 0 && u64::from(address) + bytes <= length;
-    if length == 0 || length > LONGEST || length % 512 != 0 {
+    let fits = |address: u32, bytes: u64| address & 3 == 0 && u64::from(address) + bytes <= length;
+    if length == 0 || length > LONGEST || length & 511 != 0 {
         Err(1)
     } else if !fits(desk.system_block, 256) {
         Err(2)

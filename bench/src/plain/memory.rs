@@ -38,33 +38,55 @@ fn lookup(memory: &[u8], desk: &State, address: u32, write: bool) -> Result<usiz
     Ok(place)
 }
 
-/// Whether `count` bytes from `address` lie in one page.
-fn in_page(address: u32, count: u32) -> bool {
-    address % PAGE <= PAGE - count
+/// Whether `COUNT` bytes from `address` lie in one page.
+#[inline(always)]
+fn in_page<const COUNT: usize>(address: u32) -> bool {
+    address % PAGE <= PAGE - COUNT as u32
 }
 
 pub fn byte(memory: &[u8], desk: &State, address: u32) -> Result<u8, Alarm> {
     Ok(memory[lookup(memory, desk, address, false)?])
 }
 
-pub fn word<const ONE_LOOKUP: bool>(memory: &[u8], desk: &State, address: u32) -> Result<u32, Alarm> {
-    if ONE_LOOKUP && in_page(address, 4) {
+/// The bytes from an address on: a value, an operand, the stack.
+#[inline(always)]
+pub fn bytes<const ONE_LOOKUP: bool, const COUNT: usize>(
+    memory: &[u8],
+    desk: &State,
+    address: u32,
+) -> Result<[u8; COUNT], Alarm> {
+    if ONE_LOOKUP && in_page::<COUNT>(address) {
         let place = lookup(memory, desk, address, false)?;
-        if let Some(b) = memory.get(place..place + 4) {
-            return Ok(u32::from_be_bytes([b[0], b[1], b[2], b[3]]));
+        if let Some(bytes) = memory.get(place..).and_then(<[u8]>::first_chunk) {
+            return Ok(*bytes);
         }
     }
-    let mut value = 0;
-    for i in 0..4 {
-        value = value << 8 | u32::from(byte(memory, desk, address.wrapping_add(i))?);
+    let mut bytes = [0; COUNT];
+    for (i, to) in (0..).zip(&mut bytes) {
+        *to = byte(memory, desk, address.wrapping_add(i))?;
     }
-    Ok(value)
+    Ok(bytes)
+}
+
+/// A value of `SIZE` bytes: 1, 2 or 4.
+#[inline(always)]
+pub fn value<const ONE_LOOKUP: bool, const SIZE: usize>(
+    memory: &[u8],
+    desk: &State,
+    address: u32,
+) -> Result<u32, Alarm> {
+    let bytes = bytes::<ONE_LOOKUP, SIZE>(memory, desk, address)?;
+    Ok(match SIZE {
+        1 => u32::from(bytes[0]),
+        2 => u32::from(u16::from_be_bytes([bytes[0], bytes[1]])),
+        _ => u32::from_be_bytes([bytes[0], bytes[1], bytes[2], bytes[3]]),
+    })
 }
 
 /// The six bytes of an operand: form, register pair and word.
 #[inline(always)]
 pub fn fields<const ONE_LOOKUP: bool>(memory: &[u8], desk: &State, address: u32) -> Result<(u8, u8, u32), Alarm> {
-    if ONE_LOOKUP && in_page(address, 6) {
+    if ONE_LOOKUP && in_page::<6>(address) {
         let place = lookup(memory, desk, address, false)?;
         if let Some(b) = memory.get(place..place + 6) {
             return Ok((b[0], b[1], u32::from_be_bytes([b[2], b[3], b[4], b[5]])));
@@ -72,25 +94,46 @@ pub fn fields<const ONE_LOOKUP: bool>(memory: &[u8], desk: &State, address: u32)
     }
     let form = byte(memory, desk, address)?;
     let pair = byte(memory, desk, address.wrapping_add(1))?;
-    Ok((form, pair, word::<ONE_LOOKUP>(memory, desk, address.wrapping_add(2))?))
+    Ok((form, pair, value::<ONE_LOOKUP, 4>(memory, desk, address.wrapping_add(2))?))
 }
 
-/// Writes a word: all four bytes are looked up before the first is written.
-pub fn store<const ONE_LOOKUP: bool>(memory: &mut [u8], desk: &State, address: u32, value: u32) -> Result<(), Alarm> {
-    let bytes = value.to_be_bytes();
-    if ONE_LOOKUP && in_page(address, 4) {
+/// Writes bytes: all are looked up before the first is written.
+#[inline(always)]
+pub fn write<const ONE_LOOKUP: bool, const COUNT: usize>(
+    memory: &mut [u8],
+    desk: &State,
+    address: u32,
+    bytes: &[u8; COUNT],
+) -> Result<(), Alarm> {
+    if ONE_LOOKUP && in_page::<COUNT>(address) {
         let place = lookup(memory, desk, address, true)?;
-        if let Some(b) = memory.get_mut(place..place + 4) {
-            b.copy_from_slice(&bytes);
+        if let Some(to) = memory.get_mut(place..).and_then(<[u8]>::first_chunk_mut) {
+            *to = *bytes;
             return Ok(());
         }
     }
-    let mut places = [0; 4];
+    let mut places = [0; COUNT];
     for (i, place) in (0..).zip(&mut places) {
         *place = lookup(memory, desk, address.wrapping_add(i), true)?;
     }
     for (place, byte) in places.into_iter().zip(bytes) {
-        memory[place] = byte;
+        memory[place] = *byte;
     }
     Ok(())
+}
+
+/// Writes the low `SIZE` bytes of a value: 1, 2 or 4.
+#[inline(always)]
+pub fn store<const ONE_LOOKUP: bool, const SIZE: usize>(
+    memory: &mut [u8],
+    desk: &State,
+    address: u32,
+    value: u32,
+) -> Result<(), Alarm> {
+    let [b0, b1, b2, b3] = value.to_be_bytes();
+    match SIZE {
+        1 => write::<ONE_LOOKUP, 1>(memory, desk, address, &[b3]),
+        2 => write::<ONE_LOOKUP, 2>(memory, desk, address, &[b2, b3]),
+        _ => write::<ONE_LOOKUP, 4>(memory, desk, address, &[b0, b1, b2, b3]),
+    }
 }

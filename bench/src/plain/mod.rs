@@ -1,23 +1,27 @@
 //! The desk in plain Rust: a yardstick for the proved code, not a product.
 //!
 //! It is written as one would write it without proofs: one state that is changed in place, safe Rust with its bounds
-//! checks, errors by `?`. It comes in two kinds: with `ONE_LOOKUP` a word, or the six bytes of an operand, that lies in
-//! one page is looked up once; without it every byte is looked up by itself, as document 01 words it.
+//! checks, errors by `?`, one copy of the code for each size and operation. It comes in two kinds: with `ONE_LOOKUP` a
+//! value, the six bytes of an operand, or the 60 bytes of PUSHR and POPR, that lie in one page are looked up once;
+//! without it every byte is looked up by itself, as document 01 words it.
 //!
 //! Covered, with the same results as the proved desk:
-//! - HALT, MOVE W, ADD W, SUB W (two operands), CMP W and the jumps 70h to 78h;
+//! - MOVE, CMP, and OR, ANDNOT, XOR, ADD, SUB, MULT with two and three operands, in B, H and W; SH;
+//! - the jumps 70h to 78h, CALL, RET, PUSHR, POPR and HALT;
 //! - the nine forms with their rules (14), R15 inside an operand, flags;
 //! - the map and alarms 8 to 13, the undoing of a command that alarms;
 //! - refusals 1 to 5 and 7, interrupts, kernel entry and stop 16, the step count.
 //!
-//! Not covered: every other command (it gives alarm 12, as an unknown byte does), and with that B and H values, three
-//! operands, the stack, the system call and RESUME; the calls for a fresh desk and for a level.
+//! Not covered: every other command (it gives alarm 12, as an unknown byte does), the system call and RESUME among them;
+//! the calls for a fresh desk and for a level.
 #![forbid(unsafe_code)]
 
+mod arithmetic;
 mod command;
 mod entry;
 mod memory;
 mod operand;
+mod stack;
 
 use crate::state::{State, KERNEL, RUNNING};
 

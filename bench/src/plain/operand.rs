@@ -1,6 +1,6 @@
 //! Operands: six bytes, form rules, address, value.
 
-use super::memory::{fields, store, word};
+use super::memory::{self, fields, store};
 use super::Alarm;
 use crate::state::State;
 
@@ -12,30 +12,41 @@ pub enum Place {
     At(u32),
 }
 
-/// The operand that R15 names, the `number`th of its command; R15 goes past it.
+/// The bits of a value of `SIZE` bytes: 1, 2 or 4.
+const fn mask<const SIZE: usize>() -> u32 {
+    u32::MAX >> (32 - 8 * SIZE)
+}
+
+/// The operand of `SIZE` bytes that R15 names, the `number`th of its command; R15 goes past it.
 #[inline(always)]
-fn place<const ONE_LOOKUP: bool>(memory: &[u8], desk: &mut State, number: u32) -> Result<Place, Alarm> {
+fn place<const ONE_LOOKUP: bool, const SIZE: usize>(
+    memory: &[u8],
+    desk: &mut State,
+    number: u32,
+) -> Result<Place, Alarm> {
     let base = desk.registers[15];
     let (form, pair, z) = fields::<ONE_LOOKUP>(memory, desk, base)?;
     desk.registers[15] = base.wrapping_add(6);
     let (x, y) = ((pair / 16) as usize, (pair % 16) as usize);
+    let size = SIZE as u32;
     let sum = |desk: &State| z.wrapping_add(desk.registers[x]);
-    let index = |desk: &State| desk.registers[y].wrapping_mul(4);
+    let index = |desk: &State| desk.registers[y].wrapping_mul(size);
+    let indirect = |desk: &State| memory::value::<ONE_LOOKUP, 4>(memory, desk, sum(desk));
     Ok(match form {
         0 if pair == 0 => Place::At(z),
-        1 if pair == 0 => Place::Value(z),
+        1 if pair == 0 && z <= mask::<SIZE>() => Place::Value(z),
         2 if y == 0 && z == 0 => Place::Register(x),
         3 if y == 0 => Place::At(sum(desk)),
         4 => Place::At(sum(desk).wrapping_add(index(desk))),
-        5 if y == 0 => Place::At(word::<ONE_LOOKUP>(memory, desk, sum(desk))?),
-        6 => Place::At(word::<ONE_LOOKUP>(memory, desk, sum(desk))?.wrapping_add(index(desk))),
+        5 if y == 0 => Place::At(indirect(desk)?),
+        6 => Place::At(indirect(desk)?.wrapping_add(index(desk))),
         7 if x != 15 && y == 0 && z == 0 => {
-            desk.registers[x] = desk.registers[x].wrapping_sub(4);
+            desk.registers[x] = desk.registers[x].wrapping_sub(size);
             Place::At(desk.registers[x])
         }
         8 if x != 15 && y == 0 && z == 0 => {
             let address = desk.registers[x];
-            desk.registers[x] = address.wrapping_add(4);
+            desk.registers[x] = address.wrapping_add(size);
             Place::At(address)
         }
         _ => return Err(Alarm(14, number)),
@@ -44,14 +55,22 @@ fn place<const ONE_LOOKUP: bool>(memory: &[u8], desk: &mut State, number: u32) -
 
 /// The next operand's value.
 #[inline(always)]
-pub fn value<const ONE_LOOKUP: bool>(memory: &[u8], desk: &mut State, number: u32) -> Result<u32, Alarm> {
-    place::<ONE_LOOKUP>(memory, desk, number)?.read::<ONE_LOOKUP>(memory, desk)
+pub fn value<const ONE_LOOKUP: bool, const SIZE: usize>(
+    memory: &[u8],
+    desk: &mut State,
+    number: u32,
+) -> Result<u32, Alarm> {
+    place::<ONE_LOOKUP, SIZE>(memory, desk, number)?.read::<ONE_LOOKUP, SIZE>(memory, desk)
 }
 
 /// The next operand as a place to write to: not form 1.
 #[inline(always)]
-pub fn target<const ONE_LOOKUP: bool>(memory: &[u8], desk: &mut State, number: u32) -> Result<Place, Alarm> {
-    match place::<ONE_LOOKUP>(memory, desk, number)? {
+pub fn target<const ONE_LOOKUP: bool, const SIZE: usize>(
+    memory: &[u8],
+    desk: &mut State,
+    number: u32,
+) -> Result<Place, Alarm> {
+    match place::<ONE_LOOKUP, SIZE>(memory, desk, number)? {
         Place::Value(_) => Err(Alarm(14, number)),
         target => Ok(target),
     }
@@ -60,7 +79,7 @@ pub fn target<const ONE_LOOKUP: bool>(memory: &[u8], desk: &mut State, number: u
 /// The next operand's address: not forms 1 and 2.
 #[inline(always)]
 pub fn address<const ONE_LOOKUP: bool>(memory: &[u8], desk: &mut State, number: u32) -> Result<u32, Alarm> {
-    match place::<ONE_LOOKUP>(memory, desk, number)? {
+    match place::<ONE_LOOKUP, 4>(memory, desk, number)? {
         Place::At(address) => Ok(address),
         Place::Value(_) | Place::Register(_) => Err(Alarm(14, number)),
     }
@@ -68,23 +87,29 @@ pub fn address<const ONE_LOOKUP: bool>(memory: &[u8], desk: &mut State, number: 
 
 impl Place {
     #[inline(always)]
-    pub fn read<const ONE_LOOKUP: bool>(self, memory: &[u8], desk: &State) -> Result<u32, Alarm> {
+    pub fn read<const ONE_LOOKUP: bool, const SIZE: usize>(self, memory: &[u8], desk: &State) -> Result<u32, Alarm> {
         match self {
             Place::Value(z) => Ok(z),
-            Place::Register(x) => Ok(desk.registers[x]),
-            Place::At(address) => word::<ONE_LOOKUP>(memory, desk, address),
+            Place::Register(x) => Ok(desk.registers[x] & mask::<SIZE>()),
+            Place::At(address) => memory::value::<ONE_LOOKUP, SIZE>(memory, desk, address),
         }
     }
 
+    /// Writes a value of `SIZE` bytes; a register keeps the rest.
     #[inline(always)]
-    pub fn write<const ONE_LOOKUP: bool>(self, memory: &mut [u8], desk: &mut State, value: u32) -> Result<(), Alarm> {
+    pub fn write<const ONE_LOOKUP: bool, const SIZE: usize>(
+        self,
+        memory: &mut [u8],
+        desk: &mut State,
+        value: u32,
+    ) -> Result<(), Alarm> {
         match self {
             Place::Value(_) => Ok(()),
             Place::Register(x) => {
-                desk.registers[x] = value;
+                desk.registers[x] = desk.registers[x] & !mask::<SIZE>() | value;
                 Ok(())
             }
-            Place::At(address) => store::<ONE_LOOKUP>(memory, desk, address, value),
+            Place::At(address) => store::<ONE_LOOKUP, SIZE>(memory, desk, address, value),
         }
     }
 }
