@@ -1,0 +1,23 @@
+//! The `desk` command: assembles, lists, runs and debugs programs for the MI desk, in MI's own notation. It stands over the
+//! proved library through the safe crate `midesk`; what it does itself is plain Rust, tested.
+#![forbid(unsafe_code)]
+
+pub mod asm;
+pub mod debug;
+pub mod decode;
+pub mod forms;
+pub mod help;
+pub mod image;
+pub mod json;
+pub mod list;
+pub mod map;
+pub mod names;
+pub mod notation;
+pub mod options;
+pub mod output;
+pub mod picture;
+pub mod report;
+pub mod run;
+pub mod table;
+pub mod trace;
+pub mod view;
