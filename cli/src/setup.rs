@@ -1,0 +1,66 @@
+//! From a file and options to a desk: what `run`, `debug`, `map` and `picture` share.
+
+use crate::image::{self, Image};
+use crate::machine::Machine;
+use crate::options::{self, Given};
+use crate::output;
+use midesk::Refusal;
+use std::path::Path;
+
+/// The exit status of a refusal: 32 + its number.
+pub fn refusal_status(refusal: Refusal) -> u8 {
+    32 + refusal.number() as u8
+}
+
+/// The image of the file, with memory, blocks and start as the options say; else the exit status, after a sentence.
+pub fn image(verb: &str, given: &Given) -> Result<Image, u8> {
+    let file = given.operands.first().map_or("", String::as_str);
+    let mut image = read(file)?;
+    apply(&mut image, given).map_err(|sentence| options::usage(verb, &sentence))?;
+    Ok(image)
+}
+
+/// A fresh desk over the image of the file; else the exit status, after a sentence.
+pub fn machine(verb: &str, given: &Given) -> Result<Machine, u8> {
+    let image = image(verb, given)?;
+    let (length, system, control) = (image.memory.len(), image.system, image.control);
+    Machine::fresh(image).map_err(|refusal| {
+        let what = match refusal {
+            Refusal::Length => format!("it has {length} bytes"),
+            Refusal::SystemBlock => format!("it is at {system:X}h with 256 bytes, the memory has {length:X}h"),
+            _ => format!("it is at {control:X}h with 80 bytes, the memory has {length:X}h"),
+        };
+        output::err(&format!("desk {verb}: refusal {}: {refusal} ({what})\n", refusal.number()));
+        refusal_status(refusal)
+    })
+}
+
+fn read(file: &str) -> Result<Image, u8> {
+    let path = Path::new(file);
+    if let Err(error) = std::fs::File::open(path) {
+        output::err(&format!("{}: cannot be read: {error}\n", options::shown(file)));
+        return Err(output::NO_INPUT);
+    }
+    image::load(path).map_err(|complaints| {
+        for complaint in complaints {
+            output::err(&format!("{complaint}\n"));
+        }
+        output::BAD_INPUT
+    })
+}
+
+fn apply(image: &mut Image, given: &Given) -> Result<(), String> {
+    let names = image.names.clone();
+    if let Some(bytes) = given.count("--memory")? {
+        let length = usize::try_from(bytes).ok().filter(|length| *length <= image::LARGEST);
+        let length = length.ok_or_else(|| format!("--memory can be at most {}", image::LARGEST))?;
+        if length < image.memory.len() {
+            return Err(format!("--memory {length} is less than the {} bytes of the file", image.memory.len()));
+        }
+        image.memory.resize(length, 0);
+    }
+    image.system = given.address("--system", &names)?.unwrap_or(image.system);
+    image.control = given.address("--control", &names)?.unwrap_or(image.control);
+    image.start = given.address("--start", &names)?.unwrap_or(image.start);
+    Ok(())
+}
