@@ -1,7 +1,10 @@
 //! What a FILE is: a source (.mi), commented hexadecimal (.hex) or the bytes themselves, into one image.
 
 use crate::names::Names;
+use crate::{asm, hex};
 use std::fmt;
+use std::fs::File;
+use std::io::Read;
 use std::path::Path;
 
 /// A memory with where a fresh desk finds its blocks and starts, and with what is known of it.
@@ -43,6 +46,8 @@ pub struct Complaint {
     pub line: usize,
     pub column: usize,
     pub sentence: String,
+    /// The file could not be read at all.
+    pub unread: bool,
 }
 
 impl fmt::Display for Complaint {
@@ -60,12 +65,52 @@ pub const LARGEST: usize = 16_777_216;
 /// The image of a file. The memory is filled up with zeros to a multiple of 512, at least 512.
 pub fn load(path: &Path) -> Result<Image, Vec<Complaint>> {
     let file = path.display().to_string();
-    let content = std::fs::read(path).map_err(|e| vec![complaint(&file, 0, 0, format!("cannot be read: {e}"))])?;
-    Ok(of_bytes(content))
+    match path.extension().and_then(|ending| ending.to_str()) {
+        Some("mi" | "MI") => Ok(asm::assemble(&file, &read_text(path)?)?.image),
+        Some("hex") => Ok(of_bytes(hex::bytes(&file, &read(path)?)?)),
+        _ => {
+            let bytes = read(path)?;
+            match bytes.len() <= LARGEST {
+                true => Ok(of_bytes(bytes)),
+                false => Err(vec![complaint(
+                    &file,
+                    0,
+                    0,
+                    format!("has more than the {LARGEST} bytes of the largest memory"),
+                )]),
+            }
+        }
+    }
+}
+
+/// The largest file that is read: a source of that length has more lines than any memory needs.
+const LARGEST_FILE: u64 = 1 << 28;
+
+/// The bytes of a file.
+pub fn read(path: &Path) -> Result<Vec<u8>, Vec<Complaint>> {
+    let file = path.display().to_string();
+    let wrong = |sentence: String| vec![Complaint { unread: true, ..complaint(&file, 0, 0, sentence) }];
+    let opened = File::open(path).map_err(|e| wrong(format!("cannot be read: {e}")))?;
+    let mut content = Vec::new();
+    opened.take(LARGEST_FILE + 1).read_to_end(&mut content).map_err(|e| wrong(format!("cannot be read: {e}")))?;
+    match content.len() as u64 <= LARGEST_FILE {
+        true => Ok(content),
+        false => Err(wrong(format!("has more than {LARGEST_FILE} bytes"))),
+    }
+}
+
+/// A file as text.
+pub fn read_text(path: &Path) -> Result<String, Vec<Complaint>> {
+    String::from_utf8(read(path)?).map_err(|e| {
+        let before = e.as_bytes().get(..e.utf8_error().valid_up_to()).unwrap_or(&[]);
+        let line = 1 + before.iter().filter(|byte| **byte == b'\n').count();
+        let sentence = "this line is no text (UTF-8); a file of bytes must not end in .mi".to_string();
+        vec![complaint(&path.display().to_string(), line, 0, sentence)]
+    })
 }
 
 pub fn complaint(file: &str, line: usize, column: usize, sentence: String) -> Complaint {
-    Complaint { file: file.to_string(), line, column, sentence }
+    Complaint { file: file.to_string(), line, column, sentence, unread: false }
 }
 
 /// The image of plain bytes, with blocks and start where `trace` has them.

@@ -3,6 +3,8 @@
 #![forbid(unsafe_code)]
 
 pub mod asm;
+pub mod atlas;
+pub mod blocks;
 pub mod debug;
 pub mod decode;
 pub mod diagnose;
@@ -11,10 +13,12 @@ pub mod effect;
 pub mod engine;
 pub mod forms;
 pub mod help;
+pub mod hex;
 pub mod hints;
 pub mod image;
 pub mod json;
 pub mod list;
+pub mod lists;
 pub mod machine;
 pub mod map;
 pub mod names;

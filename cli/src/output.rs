@@ -18,3 +18,14 @@ pub const USAGE: u8 = 64;
 pub const BAD_INPUT: u8 = 65;
 pub const NO_INPUT: u8 = 66;
 pub const CANNOT_WRITE: u8 = 74;
+
+/// Tells what is wrong with a file, a line each, and gives the exit status.
+pub fn complain(complaints: &[crate::image::Complaint]) -> u8 {
+    for complaint in complaints {
+        err(&format!("{complaint}\n"));
+    }
+    match complaints.iter().any(|complaint| complaint.unread) {
+        true => NO_INPUT,
+        false => BAD_INPUT,
+    }
+}

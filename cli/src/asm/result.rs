@@ -1,0 +1,127 @@
+//! What assembling gives: the bytes, and the image with names, programs and lines.
+
+use super::errors::{Errors, Fault};
+use super::fields;
+use super::layout::{Layout, Position};
+use super::syntax::{Kind, Statement};
+use crate::image::{self, Image, Program, SourceLine};
+use crate::names::Names;
+use crate::notation::hexadecimal;
+use crate::view;
+
+pub struct Assembled {
+    /// From address 0 up to the last byte that the source gives.
+    pub bytes: Vec<u8>,
+    pub image: Image,
+}
+
+/// No two statements give one byte.
+pub fn check_overlaps(statements: &[Statement], layout: &Layout, errors: &mut Errors) {
+    let mut pieces: Vec<(&Statement, &Position)> =
+        statements.iter().zip(&layout.positions).filter(|(_, position)| position.length > 0).collect();
+    pieces.sort_by_key(|(statement, position)| (position.real, statement.line));
+    let mut reached = (0, 0);
+    for (statement, position) in pieces {
+        let (end, line) = reached;
+        if position.real < end {
+            let (later, earlier) = (statement.line.max(line), statement.line.min(line));
+            let sentence =
+                format!("these bytes overlap those of line {earlier} at address {}", hexadecimal(position.real));
+            errors.add(later, Fault { column: statement.column, sentence });
+        }
+        reached = reached.max((position.real + position.length, statement.line));
+    }
+}
+
+/// Puts the image together.
+pub fn assembled(
+    source: &str,
+    statements: &[Statement],
+    layout: &Layout,
+    mut bytes: Vec<u8>,
+    errors: &mut Errors,
+) -> Assembled {
+    let mut start = None;
+    for (statement, position) in statements.iter().zip(&layout.positions) {
+        let word = |expression| layout.symbols.word(expression, position.segment);
+        match &statement.kind {
+            Kind::Start(expression) => start = errors.keep(statement.line, word(expression)).or(start),
+            Kind::Memory(expression) => {
+                if let Some(length) = errors.keep(statement.line, word(expression)) {
+                    extend(&mut bytes, length, statement, errors);
+                }
+            }
+            _ => {}
+        }
+    }
+    let mut image = image::of_bytes(bytes.clone());
+    image.start = start.unwrap_or(image.start);
+    let first = |wanted: fn(&Kind) -> bool| {
+        let found = statements.iter().zip(&layout.positions).find(|(statement, _)| wanted(&statement.kind));
+        found.map(|(_, position)| position.real)
+    };
+    image.system = first(|kind| matches!(kind, Kind::SystemBlock(_))).unwrap_or(image.system);
+    image.control = first(|kind| matches!(kind, Kind::ControlBlock(_))).unwrap_or(image.control);
+    image.names = names(layout);
+    image.lines = lines(source, statements, layout);
+    image.programs = programs(statements, layout, &image.memory);
+    Assembled { bytes, image }
+}
+
+fn extend(bytes: &mut Vec<u8>, length: u32, statement: &Statement, errors: &mut Errors) {
+    let column = statement.column;
+    let allowed = length > 0 && length % 512 == 0 && length as usize <= image::LARGEST;
+    if !allowed {
+        let sentence =
+            format!("expected a memory of 512 to {} bytes, a multiple of 512, found {length}", image::LARGEST);
+        errors.add(statement.line, Fault { column, sentence });
+    } else if bytes.len() > length as usize {
+        let sentence = format!("the source gives bytes up to {}, past this memory", hexadecimal(bytes.len() as u32));
+        errors.add(statement.line, Fault { column, sentence });
+    } else {
+        bytes.resize(length as usize, 0);
+    }
+}
+
+/// Names of real addresses.
+fn names(layout: &Layout) -> Names {
+    let mut names = Names::none();
+    for (name, place) in layout.symbols.iter().filter(|(_, place)| !place.is_virtual) {
+        names.add(name, place.address);
+    }
+    names
+}
+
+fn lines(source: &str, statements: &[Statement], layout: &Layout) -> Vec<SourceLine> {
+    let texts: Vec<&str> = super::parser::lines(source).collect();
+    let with_bytes = statements.iter().zip(&layout.positions).filter(|(_, position)| position.length > 0);
+    let line = |(statement, position): (&Statement, &Position)| {
+        let text = texts.get(statement.line.wrapping_sub(1)).map_or("", |text| text.trim());
+        SourceLine { address: position.real, line: statement.line, text: text.to_string() }
+    };
+    let mut lines: Vec<SourceLine> = with_bytes.map(line).collect();
+    lines.sort_by_key(|line| (line.address, line.line));
+    lines
+}
+
+/// A program for each control block, with the names that its map leads to.
+fn programs(statements: &[Statement], layout: &Layout, memory: &[u8]) -> Vec<Program> {
+    let mut programs = Vec::new();
+    for (statement, position) in statements.iter().zip(&layout.positions) {
+        if !matches!(statement.kind, Kind::ControlBlock(_)) {
+            continue;
+        }
+        let number = programs.len() + 1;
+        let name = statement.labels.first().map_or(format!("program {number}"), |label| label.name.clone());
+        let word = |offset| view::word(memory, position.real.saturating_add(offset)).unwrap_or(0);
+        let (map_base, map_length) = (word(fields::MAP), word(fields::LENGTH));
+        let mut names = Names::none();
+        for (name, place) in layout.symbols.iter().filter(|(_, place)| place.is_virtual) {
+            if view::real(memory, map_base, map_length, place.address).is_ok_and(|(real, _)| real == place.real) {
+                names.add(name, place.address);
+            }
+        }
+        programs.push(Program { name, control_block: position.real, map_base, map_length, names });
+    }
+    programs
+}
