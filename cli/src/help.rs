@@ -103,7 +103,7 @@ fn plain(text: &[Text]) -> Vec<String> {
 }
 
 /// A word and what it means, in two columns.
-fn row(name: &str, meaning: &str, width: usize) -> Vec<String> {
+pub fn row(name: &str, meaning: &str, width: usize) -> Vec<String> {
     let width = width.min(26);
     let indent = width + 4;
     let mut lines = wrapped(meaning, indent);

@@ -1,0 +1,187 @@
+//! Commands that show: where, registers, memory, list, map, blocks.
+
+use super::commands::{count, nothing_more, Done, Session};
+use crate::atlas::Atlas;
+use crate::blocks as blocks_;
+use crate::decode::Decoded;
+use crate::dump;
+use crate::effect;
+use crate::hints;
+use crate::machine::due;
+use crate::map as map_;
+use crate::names::Names;
+use crate::notation::{self, hexadecimal};
+use crate::options;
+use crate::plan::DUMP;
+use crate::report;
+use crate::trace;
+use crate::view;
+use crate::words;
+use midesk::Mark;
+use std::io::Write;
+
+/// Commands that `list` shows, and how many of them before R15.
+const LISTED: u64 = 10;
+const BEFORE: usize = 4;
+/// Bytes or commands that are shown at most.
+const MOST: u64 = 65_536;
+
+pub fn place(session: &mut Session, arguments: &[&str], out: &mut dyn Write) -> Done {
+    nothing_more(arguments)?;
+    writeln!(out, "{} made", words::steps(session.machine.steps))?;
+    match session.machine.desk.mark() {
+        Mark::Stopped(number) => session.stopped(number, out),
+        _ => next(session, out),
+    }
+}
+
+/// What the next step does.
+pub fn next(session: &Session, out: &mut dyn Write) -> Done {
+    let desk = &session.machine.desk;
+    match (desk.mark(), due(desk)) {
+        (Mark::Stopped(number), _) => writeln!(out, "stopped with {number}: {}", words::stop(number))?,
+        (_, Some(level)) => writeln!(out, "next: an interrupt of level {level}")?,
+        _ => writeln!(out, "next: {}", report::commanded(&session.machine, desk))?,
+    }
+    Ok(())
+}
+
+pub fn registers(session: &mut Session, arguments: &[&str], out: &mut dyn Write) -> Done {
+    nothing_more(arguments)?;
+    for line in report::state(&session.machine.known, &session.machine.desk) {
+        writeln!(out, "{line}")?;
+    }
+    Ok(())
+}
+
+/// An address as the user writes it, with the names of the present mode or, in kernel mode, the real ones.
+fn address(text: &str, names: &Names) -> Result<u32, String> {
+    let none = || format!("'{}' is neither an address such as 410h nor a name here", options::shown(text));
+    options::address(text, names).ok_or_else(none)
+}
+
+pub fn memory(session: &mut Session, arguments: &[&str], out: &mut dyn Write) -> Done {
+    let (real, arguments) = match arguments.split_first() {
+        Some((&"real", rest)) => (true, rest),
+        _ => (session.machine.desk.is_kernel(), arguments),
+    };
+    let Some(text) = arguments.first() else {
+        return Err("memory from where? An address, such as 410h, or a name".to_string().into());
+    };
+    let n = count(arguments.get(1))?.unwrap_or(u64::from(DUMP)).min(MOST) as u32;
+    nothing_more(arguments.get(2..).unwrap_or_default())?;
+    let machine = &session.machine;
+    let names = if real { &machine.known.real } else { machine.known.names(&machine.desk) };
+    let from = match session.onward {
+        Some(onward) => onward,
+        None => address(text, names)?,
+    };
+    let byte = |i: u32| match real {
+        true => view::byte(&machine.memory, from.wrapping_add(i)),
+        false => effect::byte(&machine.desk, &machine.memory, from.wrapping_add(i)),
+    };
+    let bytes: Vec<Option<u8>> = (0..n).map(byte).collect();
+    for row in dump::rows(from, &bytes) {
+        writeln!(out, "{row}")?;
+    }
+    if let Some(first) = bytes.iter().position(Option::is_none) {
+        let at = from.wrapping_add(first as u32);
+        let why = match real {
+            true => format!("the memory ends at {}", hexadecimal(machine.memory.len() as u32)),
+            false => hints::entry(&machine.known, &machine.memory, &machine.desk, at),
+        };
+        writeln!(out, "{} cannot be read: {why}", hexadecimal(at))?;
+    }
+    session.onward = Some(from.wrapping_add(n));
+    Ok(())
+}
+
+pub fn list(session: &mut Session, arguments: &[&str], out: &mut dyn Write) -> Done {
+    let machine = &session.machine;
+    let names = machine.known.names(&machine.desk);
+    let r15 = machine.desk.register(15);
+    let n = count(arguments.get(1))?.unwrap_or(LISTED).min(MOST);
+    nothing_more(arguments.get(2..).unwrap_or_default())?;
+    let mut at = match (session.onward, arguments.first()) {
+        (Some(onward), _) => onward,
+        (None, Some(text)) => address(text, names)?,
+        (None, None) => before(session, r15),
+    };
+    for _ in 0..n {
+        let mark = if at == r15 { "=>" } else { "  " };
+        let label = names.name_of(at).map(|name| format!("{name}:")).unwrap_or_default();
+        let (command, next) = match machine.command_at(at) {
+            Ok(command) => (notation::written(&command, names), command.next()),
+            Err(trouble) => (hints::trouble(machine.desk.is_kernel(), &trouble), at.wrapping_add(1)),
+        };
+        writeln!(out, "{mark} {:>6}  {label:10} {command}", trace::address(at))?;
+        at = next;
+    }
+    session.onward = Some(at);
+    Ok(())
+}
+
+/// Where a list around R15 starts: a few commands before it, as far as commands from the nearest name on lead to it.
+fn before(session: &Session, r15: u32) -> u32 {
+    let machine = &session.machine;
+    let names = machine.known.names(&machine.desk);
+    let Some((_, distance)) = names.nearest(r15).filter(|(_, distance)| *distance < 512) else { return r15 };
+    let mut starts = Vec::new();
+    let mut at = r15 - distance;
+    while at < r15 {
+        starts.push(at);
+        let Ok(next) = machine.command_at(at).map(|command: Decoded| command.next()) else { return r15 };
+        if next <= at {
+            return r15;
+        }
+        at = next;
+    }
+    match at == r15 {
+        true => starts.get(starts.len().saturating_sub(BEFORE)).copied().unwrap_or(r15),
+        false => r15,
+    }
+}
+
+pub fn map(session: &mut Session, arguments: &[&str], out: &mut dyn Write) -> Done {
+    nothing_more(arguments.get(1..).unwrap_or_default())?;
+    let machine = &session.machine;
+    let atlas = Atlas::of(machine, machine);
+    let running = (!machine.desk.is_kernel()).then(|| machine.desk.control_block());
+    let shown: Vec<usize> = match (arguments.first(), running) {
+        (Some(name), _) => {
+            (0..atlas.programs.len()).filter(|i| atlas.programs.get(*i).is_some_and(|p| p.name == **name)).collect()
+        }
+        (None, Some(block)) => (0..atlas.programs.len())
+            .filter(|i| atlas.programs.get(*i).is_some_and(|p| p.control_block == block))
+            .collect(),
+        (None, None) => (0..atlas.programs.len()).collect(),
+    };
+    if shown.is_empty() {
+        let names: Vec<&str> = atlas.programs.iter().map(|program| program.name.as_str()).collect();
+        let known =
+            if names.is_empty() { "none is known".to_string() } else { format!("there are {}", names.join(", ")) };
+        return Err(format!("there is no such program; {known}").into());
+    }
+    for line in shown.iter().flat_map(|place| map_::program(machine, &atlas, *place)) {
+        writeln!(out, "{}", line.trim_end())?;
+    }
+    Ok(())
+}
+
+pub fn blocks(session: &mut Session, arguments: &[&str], out: &mut dyn Write) -> Done {
+    nothing_more(arguments)?;
+    let machine = &session.machine;
+    let known = &machine.known;
+    let mut lines = blocks_::entries(known, &machine.memory, machine.desk.system_block());
+    for program in &known.programs {
+        lines.extend(blocks_::control(known, &machine.memory, program.control_block, &program.name));
+    }
+    let present = machine.desk.control_block();
+    if known.programs.iter().all(|program| program.control_block != present) {
+        lines.extend(blocks_::control(known, &machine.memory, present, "the desk"));
+    }
+    for line in lines {
+        writeln!(out, "{line}")?;
+    }
+    Ok(())
+}
