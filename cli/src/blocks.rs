@@ -35,8 +35,7 @@ impl Thing {
 }
 
 /// The system block, the control blocks and the maps.
-pub fn things(known: &Known, machine: &Machine, atlas: &Atlas) -> Vec<Thing> {
-    let _ = known;
+pub fn things(machine: &Machine, atlas: &Atlas) -> Vec<Thing> {
     let system = machine.desk.system_block();
     let mut things = vec![Thing {
         kind: Kind::System,

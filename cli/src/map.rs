@@ -3,7 +3,7 @@
 use crate::atlas::{Atlas, Mapped, Page};
 use crate::blocks;
 use crate::hints;
-use crate::machine::{Known, Machine};
+use crate::machine::Machine;
 use crate::notation::hexadecimal;
 use crate::options;
 use crate::output;
@@ -168,7 +168,7 @@ fn remark(machine: &Machine, atlas: &Atlas, program: &Mapped, page: &Page) -> St
         Ok((frame, rights)) => {
             let mut remarks = sharers(atlas, program, page.number, frame);
             if rights.write {
-                remarks.extend(endangered(&machine.known, machine, atlas, frame));
+                remarks.extend(endangered(machine, atlas, frame));
             }
             remarks.join("; ")
         }
@@ -199,8 +199,8 @@ fn sharers(atlas: &Atlas, program: &Mapped, page: u32, frame: u32) -> Vec<String
 }
 
 /// What of the kernel's a writable frame holds.
-fn endangered(known: &Known, machine: &Machine, atlas: &Atlas, frame: u32) -> Vec<String> {
-    let things = blocks::things(known, machine, atlas);
+fn endangered(machine: &Machine, atlas: &Atlas, frame: u32) -> Vec<String> {
+    let things = blocks::things(machine, atlas);
     let inside = things.iter().filter(|thing| thing.touches(frame));
     inside.map(|thing| format!("CAREFUL: it may write {}", thing.words)).collect()
 }

@@ -36,17 +36,7 @@ pub fn machine(verb: &str, given: &Given) -> Result<Machine, u8> {
 }
 
 fn read(file: &str) -> Result<Image, u8> {
-    let path = Path::new(file);
-    if let Err(error) = std::fs::File::open(path) {
-        output::err(&format!("{}: cannot be read: {error}\n", options::shown(file)));
-        return Err(output::NO_INPUT);
-    }
-    image::load(path).map_err(|complaints| {
-        for complaint in complaints {
-            output::err(&format!("{complaint}\n"));
-        }
-        output::BAD_INPUT
-    })
+    image::load(Path::new(file)).map_err(|complaints| output::complain(&complaints))
 }
 
 fn apply(image: &mut Image, given: &Given) -> Result<(), String> {
