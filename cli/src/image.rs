@@ -37,6 +37,10 @@ pub struct SourceLine {
     pub address: u32,
     pub line: usize,
     pub text: String,
+    /// Whether it is a command.
+    pub is_command: bool,
+    /// The virtual address, where the segment has AT.
+    pub at: Option<u32>,
 }
 
 /// What is wrong with a file, and where. Line and column count from 1; 0 where there is none.

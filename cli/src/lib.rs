@@ -34,6 +34,7 @@ pub mod setup;
 pub mod show;
 pub mod table;
 pub mod trace;
+pub mod trial;
 pub mod verbs;
 pub mod view;
 pub mod words;

@@ -3,12 +3,12 @@
 use crate::decode::{Decoded, Fields};
 use crate::forms;
 use crate::names::Names;
-use crate::table::{Role, Size};
+use crate::table::Size;
 
 /// The command as a source writes it: `MOVE W !R0/R2/,R1`. Addresses that have a name are written by it.
 pub fn written(command: &Decoded, names: &Names) -> String {
     let operands = command.operands.iter().zip(command.command.operands);
-    let operands: Vec<String> = operands.map(|(fields, rule)| operand(fields, rule.size, rule.role, names)).collect();
+    let operands: Vec<String> = operands.map(|(fields, rule)| operand(fields, rule.size, names)).collect();
     match operands.is_empty() {
         true => command.command.title(),
         false => format!("{} {}", command.command.title(), operands.join(",")),
@@ -16,17 +16,16 @@ pub fn written(command: &Decoded, names: &Names) -> String {
 }
 
 /// One operand.
-pub fn operand(fields: &Fields, size: Size, role: Role, names: &Names) -> String {
-    let _ = role;
+pub fn operand(fields: &Fields, size: Size, names: &Names) -> String {
     let (x, y) = (register(fields.x), register(fields.y));
     match fields.form {
         forms::ADDRESS => place(fields.z, names),
         forms::VALUE => format!("I {}", value(fields.z, size)),
         forms::REGISTER => x,
-        forms::BASE => base(fields.z, &x),
-        forms::BASE_INDEX => format!("{}/{y}/", base(fields.z, &x)),
-        forms::INDIRECT => indirect(fields.z, &x),
-        forms::INDIRECT_INDEX => format!("{}/{y}/", indirect(fields.z, &x)),
+        forms::BASE => base(fields, names),
+        forms::BASE_INDEX => format!("{}/{y}/", base(fields, names)),
+        forms::INDIRECT => indirect(fields, names),
+        forms::INDIRECT_INDEX => format!("{}/{y}/", indirect(fields, names)),
         forms::STEP_DOWN => format!("-!{x}"),
         _ => format!("!{x}+"),
     }
@@ -45,39 +44,43 @@ pub fn place(address: u32, names: &Names) -> String {
     names.name_of(address).map_or_else(|| hexadecimal(address), str::to_string)
 }
 
-fn base(z: u32, x: &str) -> String {
-    match z {
-        0 => format!("!{x}"),
-        _ => format!("{}+!{x}", offset(z)),
+/// Whether z may be a place that a register is added to, and not a distance: it is no small number, and x is not R15.
+pub fn is_base(fields: &Fields) -> bool {
+    fields.x != 15 && fields.z >= 256
+}
+
+fn base(fields: &Fields, names: &Names) -> String {
+    let x = register(fields.x);
+    match names.name_of(fields.z).filter(|_| is_base(fields)) {
+        Some(name) => format!("{name}+!{x}"),
+        None if fields.z == 0 => format!("!{x}"),
+        None => format!("{}+!{x}", value(fields.z, Size::W)),
     }
 }
 
-fn indirect(z: u32, x: &str) -> String {
-    match z {
-        0 => format!("!!{x}"),
-        _ => format!("!({})", base(z, x)),
+fn indirect(fields: &Fields, names: &Names) -> String {
+    match fields.z {
+        0 => format!("!!{}", register(fields.x)),
+        _ => format!("!({})", base(fields, names)),
     }
-}
-
-fn offset(z: u32) -> String {
-    value(z, Size::W)
 }
 
 /// A value of a size: small ones decimal, with a sign where the highest bit is set, others hexadecimal.
 pub fn value(z: u32, size: Size) -> String {
     let below = u64::from(size.highest()) + 1 - u64::from(z);
     match (z, below) {
-        (0..=999, 129..) => z.to_string(),
+        (0..=99, 129..) => z.to_string(),
         (_, 1..=128) => format!("-{below}"),
         _ => hexadecimal(z),
     }
 }
 
-/// `0`, `9`, `0Ah`, `410h`: decimal where it is the same, else with h at the end.
+/// `9`, `Ah`, `410h`, `0B0B0B0Bh`: decimal where it is the same, else with h at the end.
 pub fn hexadecimal(number: u32) -> String {
     match number {
         0..=9 => number.to_string(),
-        _ => format!("{number:X}h"),
+        0..=0x00FF_FFFF => format!("{number:X}h"),
+        _ => format!("{number:08X}h"),
     }
 }
 

@@ -29,3 +29,14 @@ pub fn complain(complaints: &[crate::image::Complaint]) -> u8 {
         false => BAD_INPUT,
     }
 }
+
+/// Writes a file, and gives the exit status.
+pub fn write(target: &str, bytes: &[u8]) -> u8 {
+    match std::fs::write(target, bytes) {
+        Ok(()) => 0,
+        Err(e) => {
+            err(&format!("{target}: cannot be written: {e}\n"));
+            CANNOT_WRITE
+        }
+    }
+}

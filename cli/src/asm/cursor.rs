@@ -147,54 +147,13 @@ pub fn register(name: &str) -> Option<u8> {
 }
 
 /// Words of the directives. With the commands, the sizes and the registers they are no names.
-const RESERVED: &[&str] = &[
-    "ABSENT",
-    "ALARM",
-    "ALI",
-    "ALIGN",
-    "ALL",
-    "ARGUMENT",
-    "AT",
-    "B",
-    "BLOCK",
-    "CAUSE",
-    "CONTROL",
-    "D",
-    "DD",
-    "END",
-    "EQU",
-    "EQUAL",
-    "EXP",
-    "EXPORT",
-    "F",
-    "FRAME",
-    "H",
-    "I",
-    "IMP",
-    "IMPORT",
-    "INTERRUPT",
-    "LENGTH",
-    "LEVEL",
-    "MAP",
-    "MEMORY",
-    "OF",
-    "ON",
-    "PAGE",
-    "READ",
-    "RES",
-    "RESERVE",
-    "SEG",
-    "START",
-    "STATUS",
-    "SYSTEM",
-    "TO",
-    "W",
-    "WORD",
-    "WRITE",
-];
+const RESERVED: &str =
+    "ABSENT ALARM ALI ALIGN ALL ARGUMENT AT B BLOCK CAUSE CONTROL D DD END EQU EQUAL EXP EXPORT F FRAME H \
+    I IMP IMPORT INTERRUPT LENGTH LEVEL MAP MEMORY OF ON PAGE READ RES RESERVE SEG START STATUS SYSTEM \
+    TO W WORD WRITE";
 
 pub fn is_reserved(word: &str) -> bool {
-    RESERVED.contains(&word) || register(word).is_some() || is_command(word)
+    RESERVED.split(' ').any(|reserved| reserved == word) || register(word).is_some() || is_command(word)
 }
 
 pub fn is_command(word: &str) -> bool {

@@ -97,7 +97,13 @@ fn lines(source: &str, statements: &[Statement], layout: &Layout) -> Vec<SourceL
     let with_bytes = statements.iter().zip(&layout.positions).filter(|(_, position)| position.length > 0);
     let line = |(statement, position): (&Statement, &Position)| {
         let text = texts.get(statement.line.wrapping_sub(1)).map_or("", |text| text.trim());
-        SourceLine { address: position.real, line: statement.line, text: text.to_string() }
+        SourceLine {
+            address: position.real,
+            line: statement.line,
+            text: text.to_string(),
+            is_command: matches!(statement.kind, Kind::Command { .. }),
+            at: position.is_virtual.then_some(position.address),
+        }
     };
     let mut lines: Vec<SourceLine> = with_bytes.map(line).collect();
     lines.sort_by_key(|line| (line.address, line.line));

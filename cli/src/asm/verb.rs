@@ -17,16 +17,6 @@ pub fn main(arguments: &[String]) -> u8 {
     };
     match super::assemble(source, &text) {
         Err(complaints) => output::complain(&complaints),
-        Ok(assembled) => write(target, &assembled.bytes),
-    }
-}
-
-fn write(target: &str, bytes: &[u8]) -> u8 {
-    match std::fs::write(target, bytes) {
-        Ok(()) => 0,
-        Err(e) => {
-            output::err(&format!("{target}: cannot be written: {e}\n"));
-            output::CANNOT_WRITE
-        }
+        Ok(assembled) => output::write(target, &assembled.bytes),
     }
 }

@@ -1,0 +1,190 @@
+//! Listing and assembling are inverse: every command in every form, all examples, random images, and damaged ones.
+
+mod common;
+
+use common::{assembled, image, Random, EXAMPLES};
+use desk::asm;
+use desk::decode::{decode, Fields};
+use desk::forms::{self, FORMS};
+use desk::image::{of_bytes, Image};
+use desk::list::listing;
+use desk::names::Names;
+use desk::notation::written;
+use desk::table::{self, Operand};
+
+/// The listing of an image gives the image back: memory, start, system block, and names where the image had some.
+fn comes_back(image: &Image, title: &str) {
+    let text = listing(image, title);
+    let back = assembled(title, &text);
+    assert!(back.memory == image.memory, "{title}: the memory differs\n{text}");
+    assert_eq!(back.start, image.start, "{title}");
+    let again = listing(&back, title);
+    let memory = assembled(title, &again).memory;
+    assert!(memory == image.memory, "{title}: the listing's listing differs\n{again}");
+}
+
+/// Fields at the edges: registers 0, 1, 13 to 15 and words around zero, signs and sizes.
+fn edges(rule: Operand) -> Vec<Fields> {
+    let registers = [0, 1, 13, 14, 15];
+    let words = [
+        0,
+        1,
+        9,
+        10,
+        15,
+        16,
+        127,
+        128,
+        129,
+        255,
+        256,
+        999,
+        1000,
+        0x7FFF,
+        0x8000,
+        0xFF7F,
+        0xFF80,
+        0xFFFF,
+        0x1_0000,
+        0xFFF,
+        0x7FFF_FFFF,
+        0x8000_0000,
+        0xA5A5_A5A5,
+        0xFFFF_FF7F,
+        0xFFFF_FF80,
+        0xFFFF_FFD8,
+        0xFFFF_FFFF,
+    ];
+    let mut found = Vec::new();
+    for form in FORMS {
+        for x in registers.into_iter().filter(|x| form.x || *x == 0) {
+            for y in registers.into_iter().filter(|y| form.y || *y == 0) {
+                for z in words.into_iter().filter(|z| form.z || *z == 0) {
+                    let fields = Fields { form: form.number, x, y, z };
+                    if forms::allowed(&fields, rule) {
+                        found.push(fields);
+                    }
+                }
+            }
+        }
+    }
+    found
+}
+
+/// The bytes that a source of one command gives.
+fn bytes_of(text: &str) -> Vec<u8> {
+    match asm::assemble("command", text) {
+        Ok(assembled) => assembled.bytes[0x200..].to_vec(),
+        Err(complaints) => panic!("{text}: {}", complaints[0]),
+    }
+}
+
+#[test]
+fn every_command_in_every_form() {
+    let plain = Fields { form: forms::BASE, x: 3, y: 0, z: 7 };
+    let mut tried = 0;
+    for command in table::commands() {
+        let mut cases = vec![vec![plain; command.operands.len()]];
+        for (place, rule) in command.operands.iter().enumerate() {
+            for fields in edges(*rule) {
+                let mut case = vec![plain; command.operands.len()];
+                case[place] = fields;
+                cases.push(case);
+            }
+        }
+        for case in cases {
+            let mut bytes = vec![command.byte];
+            bytes.extend(case.iter().flat_map(|fields| fields.to_bytes()));
+            let decoded = decode(&|at| bytes.get(at as usize).copied(), 0).expect("a command");
+            let text = written(&decoded, &Names::none());
+            let found = bytes_of(&text);
+            assert!(found == bytes || bytes.iter().all(|b| *b == 0), "{text}: {bytes:02X?} became {found:02X?}");
+            tried += 1;
+        }
+    }
+    assert!(tried > 20_000, "only {tried} commands were tried");
+}
+
+#[test]
+fn the_examples_come_back() {
+    for example in EXAMPLES {
+        let image = image(example);
+        comes_back(&image, example);
+        comes_back(&of_bytes(image.memory), example);
+    }
+}
+
+/// An image of random commands and data, now and then with blocks and a map that could be one.
+fn random_image(random: &mut Random) -> Image {
+    let mut memory = vec![0; 512 * (1 + random.below(6))];
+    let length = memory.len();
+    for _ in 0..random.below(40) {
+        let at = random.below(length);
+        let commands: Vec<&table::Command> = table::commands().collect();
+        let command = *random.pick(&commands);
+        let mut bytes = vec![command.byte];
+        for rule in command.operands {
+            let edges = edges(*rule);
+            let mut fields = *random.pick(&edges);
+            if random.below(2) == 0 && FORMS[usize::from(fields.form)].z && fields.form != forms::VALUE {
+                fields.z = random.below(length) as u32;
+            }
+            bytes.extend(fields.to_bytes());
+        }
+        let room = (length - at).min(bytes.len());
+        memory[at..at + room].copy_from_slice(&bytes[..room]);
+    }
+    for _ in 0..random.below(20) {
+        let at = 4 * random.below(length / 4);
+        let word: u32 = match random.below(5) {
+            0 => 0x8000_0000 + random.below(8) as u32,
+            1 => 0xC000_0000 + random.below(8) as u32,
+            2 => 0x8000_0000,
+            3 => random.below(length) as u32,
+            _ => random.next() as u32,
+        };
+        memory[at..at + 4].copy_from_slice(&word.to_be_bytes());
+    }
+    let mut image = of_bytes(memory);
+    if random.below(4) == 0 {
+        image.start = random.below(length + 8) as u32;
+    }
+    image
+}
+
+#[test]
+fn random_images_come_back() {
+    let mut random = Random(0x51_0007);
+    for number in 0..3000 {
+        comes_back(&random_image(&mut random), &format!("random image {number}"));
+    }
+}
+
+/// The examples with bytes changed, and started elsewhere.
+#[test]
+fn damaged_examples_come_back() {
+    let mut random = Random(0xDA_0009);
+    let images: Vec<Image> = EXAMPLES.into_iter().map(image).collect();
+    for number in 0..1500 {
+        let mut image = random.pick(&images).clone();
+        if random.below(2) == 0 {
+            image = of_bytes(image.memory);
+        }
+        for _ in 0..1 + random.below(12) {
+            let at = random.below(image.memory.len());
+            let any = random.next() as u8;
+            image.memory[at] = *random.pick(&[0, 1, 5, 0xFF, 0x80, 0xC0, any]);
+        }
+        comes_back(&image, &format!("damaged example {number}"));
+    }
+}
+
+#[test]
+fn edge_lengths_come_back() {
+    for length in [0, 1, 511, 512, 513, 65_536] {
+        comes_back(&of_bytes(vec![0; length]), "zeros");
+        comes_back(&of_bytes(vec![0xFF; length]), "ones");
+        comes_back(&of_bytes(vec![1; length]), "PUSHR");
+        comes_back(&of_bytes((0..length).map(|i| b' ' + (i % 95) as u8).collect()), "text");
+    }
+}
