@@ -1,7 +1,7 @@
 //! `desk help`, `desk help VERB` and the man page: the table in `verbs.rs` as plain lines and as roff.
 
 use crate::verbs::{self, Opt, Text, Verb, GENERAL, VERBS};
-use crate::{options, output};
+use crate::{options, output, words};
 
 const WIDTH: usize = 80;
 const PURPOSE: &str = "the MI desk at the command line";
@@ -115,24 +115,8 @@ pub fn row(name: &str, meaning: &str, width: usize) -> Vec<String> {
     lines
 }
 
-/// Words in lines of at most `WIDTH` letters.
-pub fn wrapped(words: &str, indent: usize) -> Vec<String> {
-    let mut lines = Vec::new();
-    let mut line = " ".repeat(indent);
-    let mut empty = true;
-    for word in words.split(' ') {
-        if !empty && line.chars().count() + 1 + word.chars().count() > WIDTH {
-            lines.push(std::mem::replace(&mut line, " ".repeat(indent)));
-            empty = true;
-        }
-        if !empty {
-            line.push(' ');
-        }
-        line.push_str(word);
-        empty = false;
-    }
-    lines.push(line);
-    lines
+fn wrapped(words: &str, indent: usize) -> Vec<String> {
+    words::wrapped(words, WIDTH, indent, indent)
 }
 
 /// The man page, section 1.

@@ -47,6 +47,9 @@ pub fn entry(known: &Known, memory: &[u8], desk: &Desk, address: u32) -> String 
         Ok((real, _)) => {
             format!("page {} is frame {}, which may be written, in {map} (entry at {at})", address / 512, real / 512)
         }
+        Err(Damage::PastMap { page }) if length == 0 => {
+            format!("there is no page {page}: the map is empty (map length 0)")
+        }
         Err(Damage::PastMap { page }) => {
             format!("there is no page {page} in {map}: it has {}, up to {}", pages(length), up_to(length))
         }
@@ -81,10 +84,9 @@ pub fn pages(length: u32) -> String {
 }
 
 fn up_to(length: u32) -> String {
-    match (u64::from(length) * 512).checked_sub(1).map(u32::try_from) {
-        Some(Ok(last)) => format!("address {}", hexadecimal(last)),
-        Some(Err(_)) => "the last address".to_string(),
-        None => "nowhere".to_string(),
+    match u32::try_from((u64::from(length) * 512).saturating_sub(1)) {
+        Ok(last) => format!("address {}", hexadecimal(last)),
+        Err(_) => "the last address".to_string(),
     }
 }
 
@@ -100,9 +102,9 @@ pub fn block(memory: &[u8], at: u32) -> String {
         return format!("RESUME's block at {place} does not lie in the memory with its 80 bytes");
     };
     let end = u64::from(base) + 4 * u64::from(length);
-    if at % 4 != 0 {
+    if !at.is_multiple_of(4) {
         format!("RESUME's block is at {place}, which is no multiple of 4")
-    } else if base % 4 != 0 {
+    } else if !base.is_multiple_of(4) {
         format!(
             "the block at {place} has the map base {}, which is no multiple of 4 (at {})",
             hexadecimal(base),

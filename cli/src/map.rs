@@ -1,8 +1,9 @@
 //! `desk map FILE`: each program's map as a table in words.
 
 use crate::atlas::{Atlas, Mapped, Page};
-use crate::blocks;
+use crate::blocks::{self, Thing};
 use crate::hints;
+use crate::lists;
 use crate::machine::Machine;
 use crate::notation::hexadecimal;
 use crate::options;
@@ -105,20 +106,20 @@ fn table(rows: &[Row]) -> Vec<String> {
 
 /// The pages as rows; neighbours that say the same are one row.
 fn rows(machine: &Machine, atlas: &Atlas, program: &Mapped) -> Vec<Row> {
+    let things = blocks::things(machine, atlas);
     let mut rows = Vec::new();
-    let mut run: Vec<&Page> = Vec::new();
+    let mut run: Option<(&Page, &Page, String)> = None;
     for page in &program.pages {
-        let goes_on = run.last().is_some_and(|last| follows(last, page))
-            && run
-                .first()
-                .is_some_and(|first| remark(machine, atlas, program, first) == remark(machine, atlas, program, page));
-        if !goes_on {
-            rows.extend(row(machine, atlas, program, &run));
-            run.clear();
-        }
-        run.push(page);
+        let remark = remark(atlas, &things, program, page);
+        run = match run {
+            Some((first, last, same)) if follows(last, page) && same == remark => Some((first, page, same)),
+            before => {
+                rows.extend(before.map(|(first, last, remark)| row(first, last, remark)));
+                Some((page, page, remark))
+            }
+        };
     }
-    rows.extend(row(machine, atlas, program, &run));
+    rows.extend(run.map(|(first, last, remark)| row(first, last, remark)));
     rows
 }
 
@@ -131,14 +132,12 @@ fn follows(last: &Page, page: &Page) -> bool {
     }
 }
 
-fn row(machine: &Machine, atlas: &Atlas, program: &Mapped, run: &[&Page]) -> Option<Row> {
-    let (first, last) = (run.first()?, run.last()?);
-    let remark = remark(machine, atlas, program, first);
+fn row(first: &Page, last: &Page, remark: String) -> Row {
     let (frames, real, may) = match (&first.leads, &last.leads) {
         (Ok((from, rights)), Ok((to, _))) => (span(*from, *to), addresses(*from, *to), may(rights.write)),
         _ => ("-".to_string(), "-".to_string(), "nothing".to_string()),
     };
-    Some([span(first.number, last.number), addresses(first.number, last.number), frames, real, may, remark])
+    [span(first.number, last.number), addresses(first.number, last.number), frames, real, may, remark]
 }
 
 fn may(write: bool) -> String {
@@ -162,13 +161,13 @@ fn addresses(first: u32, last: u32) -> String {
 }
 
 /// Who else reaches the page's frame, what of the kernel's lies in it, or what is wrong with the entry.
-fn remark(machine: &Machine, atlas: &Atlas, program: &Mapped, page: &Page) -> String {
+fn remark(atlas: &Atlas, things: &[Thing], program: &Mapped, page: &Page) -> String {
     let at = hexadecimal(program.map_base.wrapping_add(page.number.wrapping_mul(4)));
     match page.leads {
         Ok((frame, rights)) => {
             let mut remarks = sharers(atlas, program, page.number, frame);
             if rights.write {
-                remarks.extend(endangered(machine, atlas, frame));
+                remarks.extend(endangered(things, frame));
             }
             remarks.join("; ")
         }
@@ -199,8 +198,8 @@ fn sharers(atlas: &Atlas, program: &Mapped, page: u32, frame: u32) -> Vec<String
 }
 
 /// What of the kernel's a writable frame holds.
-fn endangered(machine: &Machine, atlas: &Atlas, frame: u32) -> Vec<String> {
-    let things = blocks::things(machine, atlas);
-    let inside = things.iter().filter(|thing| thing.touches(frame));
-    inside.map(|thing| format!("CAREFUL: it may write {}", thing.words)).collect()
+fn endangered(things: &[Thing], frame: u32) -> Option<String> {
+    let inside: Vec<&str> =
+        things.iter().filter(|thing| thing.touches(frame)).map(|thing| thing.words.as_str()).collect();
+    (!inside.is_empty()).then(|| format!("CAREFUL: it may write {}", lists::and(&inside)))
 }

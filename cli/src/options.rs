@@ -143,11 +143,16 @@ pub fn address(text: &str, names: &Names) -> Option<u32> {
 
 /// Text of somebody else's, short and without control characters, for a message.
 pub fn shown(text: &str) -> String {
-    let short: String = text.chars().take(40).map(|c| if c.is_control() { '?' } else { c }).collect();
+    let short = clean(&text.chars().take(40).collect::<String>());
     match text.chars().nth(40) {
         Some(_) => format!("{short}.."),
         None => short,
     }
+}
+
+/// Text without control characters.
+pub fn clean(text: &str) -> String {
+    text.chars().map(|letter| if letter.is_control() { '?' } else { letter }).collect()
 }
 
 fn find(verb: &'static Verb, name: &str) -> Result<&'static Opt, String> {

@@ -57,7 +57,7 @@ fn saved(machine: &Machine) -> Desk {
     desk
 }
 
-/// `program A at 14h: MOVE W R0,0 (line 57 of the source)`.
+/// `program A at 14h: MOVE W R0,0 (line 57)`.
 pub fn commanded(machine: &Machine, desk: &Desk) -> String {
     let known = &machine.known;
     let address = desk.register(15);
@@ -66,7 +66,7 @@ pub fn commanded(machine: &Machine, desk: &Desk) -> String {
         Err(trouble) => hints::trouble(desk.is_kernel(), &trouble),
     };
     let line = effect::real(desk, &machine.memory, address).and_then(|real| known.line(real));
-    let line = line.map(|line| format!(", line {} of the source", line.line)).unwrap_or_default();
+    let line = line.map(|line| format!(" (line {})", line.line)).unwrap_or_default();
     format!("{} at {}: {command}{line}", known.who(desk), known.place(desk, address))
 }
 
@@ -81,8 +81,7 @@ pub fn headline(machine: &Machine, end: &End, finding: Option<Finding>) -> Strin
         End::Stopped(16) => format!("stop 16 after {steps}: {}", words::stop(16)),
         End::Stopped(number) => {
             let words = match finding {
-                Some(Finding::Cause(8, address)) => format!("address {} is past the memory", hexadecimal(address)),
-                Some(Finding::Cause(cause, argument)) if cause == *number => words::cause_with(cause, argument),
+                Some(Finding::Cause(cause, argument)) if cause == *number => words::alarm_with(cause, argument),
                 Some(Finding::Block(_)) => "RESUME's block cannot be used".to_string(),
                 _ => words::stop(*number),
             };
@@ -96,17 +95,23 @@ pub fn headline(machine: &Machine, end: &End, finding: Option<Finding>) -> Strin
 
 /// Where to look, a line each.
 pub fn notes(machine: &Machine, end: &End, finding: Option<Finding>) -> Vec<String> {
-    let mut notes = Vec::new();
     let (known, desk) = (&machine.known, &machine.desk);
-    if *end == End::Stopped(16) {
-        notes.extend(missing_entry(machine, finding));
+    let mut notes = Vec::new();
+    if let (End::Stopped(16), Some(Finding::Cause(cause, argument))) = (end, finding) {
+        notes.push(format!("cause {cause}: {}", words::cause_with(cause, argument)));
     }
-    if !matches!(end, End::Stopped(0) | End::Refused(_)) {
-        let what = if matches!(end, End::Stopped(_)) { "the command" } else { "next" };
-        notes.push(format!("{what}: {}", commanded(machine, desk)));
+    match (end, finding) {
+        (End::Stopped(0) | End::Refused(_), _) => {}
+        (End::Stopped(_), Some(Finding::Cause(0..=15, _) | Finding::Block(_))) | (End::Stopped(_), None) => {
+            notes.push(format!("command: {}", commanded(machine, desk)))
+        }
+        _ => notes.push(format!("next: {}", commanded(machine, desk))),
     }
     let hint = finding.and_then(|finding| hints::of(known, &machine.memory, desk, finding));
     notes.extend(hint.map(|hint| format!("look at: {hint}")));
+    if let (End::Stopped(16), Some(Finding::Cause(cause, _))) = (end, finding) {
+        notes.push(missing_entry(machine, cause));
+    }
     notes
 }
 
@@ -119,19 +124,14 @@ pub fn finding(machine: &Machine, end: &End) -> Option<Finding> {
     }
 }
 
-fn missing_entry(machine: &Machine, finding: Option<Finding>) -> Vec<String> {
-    let Some(Finding::Cause(cause, argument)) = finding else { return Vec::new() };
+/// What the system block has for a cause that it does not provide for.
+fn missing_entry(machine: &Machine, cause: u32) -> String {
     let at = machine.desk.system_block().wrapping_add(8 * cause);
-    let word = |at| view::word(&machine.memory, at).unwrap_or(0);
-    vec![
-        format!("the cause was {cause}: {}", words::cause_with(cause, argument)),
-        format!(
-            "the system block's entry for cause {cause}, at {}, has R15 {} and status {:08X}h; the status must have 80000000h and, of the rest, level and flags alone",
-            hexadecimal(at),
-            hexadecimal(word(at)),
-            word(at.wrapping_add(4))
-        ),
-    ]
+    let status = view::word(&machine.memory, at.wrapping_add(4)).unwrap_or(0);
+    format!(
+        "missing: the system block's entry for cause {cause}, at {}, has the status {status:08X}h, where 80000000h is needed, with level and flags at most",
+        hexadecimal(at),
+    )
 }
 
 /// Mode, level, flags, registers and blocks.

@@ -69,10 +69,10 @@ pub fn status(end: &End) -> u8 {
 fn end_lines(machine: &Machine, plan: &Plan, ran: &Ran) -> Vec<String> {
     let finding = report::finding(machine, &ran.end);
     let mut lines = vec![report::headline(machine, &ran.end, finding)];
-    lines.extend(report::notes(machine, &ran.end, finding).iter().map(|note| format!("  {note}")));
+    lines.extend(report::notes(machine, &ran.end, finding).iter().flat_map(|note| words::folded(note, 2, 4)));
     if let Some(Entry { step, words, hint, .. }) = &ran.entry {
-        lines.push(format!("last kernel entry: step {}, {words}", words::count(*step)));
-        lines.extend(hint.iter().map(|hint| format!("  look at: {hint}")));
+        lines.extend(words::folded(&format!("last kernel entry: step {}, {words}", words::count(*step)), 0, 4));
+        lines.extend(hint.iter().flat_map(|hint| words::folded(&format!("look at: {hint}"), 2, 4)));
     }
     lines.extend(not_made(machine, plan));
     lines.push(String::new());

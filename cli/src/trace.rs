@@ -28,7 +28,8 @@ pub fn lines(known: &Known, memory: &[u8], step: &Step) -> Vec<String> {
     );
     let mut lines = vec![head.trim_end().to_string()];
     if let Event::Entered(cause) = step.event {
-        lines.extend(entry(known, memory, step, cause).iter().map(|line| format!("{:13}{line}", "")));
+        let entry = entry(known, memory, step, cause);
+        lines.extend(entry.iter().flat_map(|line| words::folded(line, 13, 15)));
     }
     lines
 }

@@ -11,7 +11,7 @@ const ALARMS: &[(u32, &str, &str)] = &[
     (11, "a write to a page without the right to write", "a write to a page without the right to write"),
     (12, "an unknown command byte", "an unknown command byte"),
     (13, "a command that only kernel mode has", "a system call in kernel mode"),
-    (14, "an operand that breaks a rule", "an operand that breaks a rule, or a block that RESUME cannot use"),
+    (14, "an operand that breaks a rule", "an operand that breaks a rule"),
     (15, "DIV by zero", "DIV by zero"),
 ];
 
@@ -45,7 +45,19 @@ pub fn stop(number: u32) -> String {
 
 /// A cause with its argument: `a system call, argument 15h (21)`.
 pub fn cause_with(number: u32, argument: u32) -> String {
-    let words = cause(number);
+    argued(cause(number), number, argument)
+}
+
+/// An alarm in kernel mode with its argument.
+pub fn alarm_with(number: u32, argument: u32) -> String {
+    match number {
+        8 => format!("address {} is past the memory", notation::hexadecimal(argument)),
+        13 => alarm(13, true),
+        _ => argued(alarm(number, true), number, argument),
+    }
+}
+
+fn argued(words: String, number: u32, argument: u32) -> String {
     match number {
         1 => format!("{words}, argument {}", both(argument)),
         8..=11 => format!("{words}, address {} (page {})", notation::hexadecimal(argument), argument / 512),
@@ -97,12 +109,40 @@ pub fn count(number: u64) -> String {
     let digits = number.to_string();
     let mut text = String::new();
     for (place, digit) in digits.chars().enumerate() {
-        if place > 0 && (digits.len() - place) % 3 == 0 {
+        if place > 0 && (digits.len() - place).is_multiple_of(3) {
             text.push(',');
         }
         text.push(digit);
     }
     text
+}
+
+/// Columns of a line of words.
+const WIDTH: usize = 100;
+
+/// Words in lines that fit, the first with its own indent.
+pub fn folded(words: &str, first: usize, others: usize) -> Vec<String> {
+    wrapped(words, WIDTH, first, others)
+}
+
+/// Words in lines of a width.
+pub fn wrapped(words: &str, width: usize, first: usize, others: usize) -> Vec<String> {
+    let mut lines = Vec::new();
+    let mut line = " ".repeat(first);
+    let mut empty = true;
+    for word in words.split(' ') {
+        if !empty && line.chars().count() + 1 + word.chars().count() > width {
+            lines.push(std::mem::replace(&mut line, " ".repeat(others)));
+            empty = true;
+        }
+        if !empty {
+            line.push(' ');
+        }
+        line.push_str(word);
+        empty = false;
+    }
+    lines.push(line);
+    lines
 }
 
 /// `1 step`, `39 steps`.
@@ -125,6 +165,14 @@ mod tests {
         assert_eq!(both(21), "15h (21)");
         assert_eq!(both(u32::MAX), "FFFFFFFFh (-1)");
         assert_eq!(flags(0x8000_000A), "N-V-");
+    }
+
+    #[test]
+    fn lines_are_folded() {
+        let words = "word ".repeat(30);
+        let lines = folded(words.trim(), 2, 4);
+        assert!(lines.len() == 2 && lines.iter().all(|line| line.len() <= WIDTH));
+        assert!(lines[0].starts_with("  word") && lines[1].starts_with("    word"));
     }
 
     #[test]

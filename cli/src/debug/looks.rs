@@ -3,7 +3,7 @@
 use super::commands::{count, nothing_more, Done, Session};
 use crate::atlas::Atlas;
 use crate::blocks as blocks_;
-use crate::decode::Decoded;
+use crate::decode::{Decoded, Trouble};
 use crate::dump;
 use crate::effect;
 use crate::hints;
@@ -28,11 +28,11 @@ const MOST: u64 = 65_536;
 
 pub fn place(session: &mut Session, arguments: &[&str], out: &mut dyn Write) -> Done {
     nothing_more(arguments)?;
-    writeln!(out, "{} made", words::steps(session.machine.steps))?;
-    match session.machine.desk.mark() {
-        Mark::Stopped(number) => session.stopped(number, out),
-        _ => next(session, out),
+    if let Mark::Stopped(number) = session.machine.desk.mark() {
+        return session.stopped(number, out);
     }
+    writeln!(out, "{} made", words::steps(session.machine.steps))?;
+    next(session, out)
 }
 
 /// What the next step does.
@@ -108,24 +108,52 @@ pub fn list(session: &mut Session, arguments: &[&str], out: &mut dyn Write) -> D
         (None, None) => before(session, r15),
     };
     for _ in 0..n {
-        let mark = if at == r15 { "=>" } else { "  " };
-        let label = names.name_of(at).map(|name| format!("{name}:")).unwrap_or_default();
-        let (command, next) = match machine.command_at(at) {
-            Ok(command) => (notation::written(&command, names), command.next()),
-            Err(trouble) => (hints::trouble(machine.desk.is_kernel(), &trouble), at.wrapping_add(1)),
-        };
-        writeln!(out, "{mark} {:>6}  {label:10} {command}", trace::address(at))?;
+        let (line, next) = listed(session, at);
+        writeln!(out, "{}", line.trim_end())?;
+        if matches!(machine.command_at(at), Err(Trouble::Unreadable(first)) if first == at) {
+            break;
+        }
         at = next;
     }
     session.onward = Some(at);
     Ok(())
 }
 
-/// Where a list around R15 starts: a few commands before it, as far as commands from the nearest name on lead to it.
+/// A line of the list, and where the next one starts. A row of zeros, which are HALTs, is one line.
+fn listed(session: &Session, at: u32) -> (String, u32) {
+    let machine = &session.machine;
+    let names = machine.known.names(&machine.desk);
+    let r15 = machine.desk.register(15);
+    let mark = if at == r15 { "=>" } else { "  " };
+    let label = names.name_of(at).map(|name| format!("{name}:")).unwrap_or_default();
+    let (command, next) = match machine.command_at(at) {
+        Ok(command) => (notation::written(&command, names), command.next()),
+        Err(trouble) => (hints::trouble(machine.desk.is_kernel(), &trouble), at.wrapping_add(1)),
+    };
+    let plain_zero = |at: u32| {
+        at != r15 && names.name_of(at).is_none() && effect::byte(&machine.desk, &machine.memory, at) == Some(0)
+    };
+    let zeros = match effect::byte(&machine.desk, &machine.memory, at) {
+        Some(0) => (1..=MOST as u32).take_while(|i| plain_zero(at.wrapping_add(*i))).count() as u32,
+        _ => 0,
+    };
+    let line = effect::real(&machine.desk, &machine.memory, at).and_then(|real| machine.known.line(real));
+    let line = line.map(|line| format!("line {}", line.line)).unwrap_or_default();
+    match zeros {
+        0 => (format!("{mark} {:>6}  {label:10} {command:40} {line}", trace::address(at)), next),
+        _ => {
+            let command = format!("{command} ({} zeros)", words::count(u64::from(zeros) + 1));
+            (format!("{mark} {:>6}  {label:10} {command:40} {line}", trace::address(at)), at.wrapping_add(zeros + 1))
+        }
+    }
+}
+
+/// Where a list around R15 starts: a few commands before it, as far as commands from the nearest name before it lead to it.
 fn before(session: &Session, r15: u32) -> u32 {
     let machine = &session.machine;
     let names = machine.known.names(&machine.desk);
-    let Some((_, distance)) = names.nearest(r15).filter(|(_, distance)| *distance < 512) else { return r15 };
+    let nearest = r15.checked_sub(1).and_then(|at| names.nearest(at)).map(|(_, distance)| distance + 1);
+    let Some(distance) = nearest.filter(|distance| *distance < 512) else { return r15 };
     let mut starts = Vec::new();
     let mut at = r15 - distance;
     while at < r15 {

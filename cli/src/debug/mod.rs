@@ -38,7 +38,7 @@ pub fn main(arguments: &[String]) -> u8 {
         }
         Some(script) => match std::fs::File::open(script) {
             Ok(file) => {
-                let place = Place::Lines(format!("{}:", options::shown(script)));
+                let place = Place::Lines(format!("{}:", options::clean(script)));
                 dialogue(machine, &mut BufReader::new(file), &mut out, place, echo)
             }
             Err(error) => {
@@ -83,7 +83,7 @@ pub fn dialogue(
         }
         let Some(line) = next_line(lines)? else { break };
         if echo {
-            writeln!(out, "{PROMPT}{}", options::shown(&line))?;
+            writeln!(out, "{}", format!("{PROMPT}{}", options::clean(&line)).trim_end())?;
         }
         match session.line(&line, out) {
             Ok(()) => {}

@@ -33,8 +33,8 @@ impl Session {
         let end = End::Stopped(number);
         let finding = report::finding(&self.machine, &end);
         writeln!(out, "{}", report::headline(&self.machine, &end, finding))?;
-        for note in report::notes(&self.machine, &end, finding) {
-            writeln!(out, "  {note}")?;
+        for line in report::notes(&self.machine, &end, finding).iter().flat_map(|note| words::folded(note, 2, 4)) {
+            writeln!(out, "{line}")?;
         }
         Ok(())
     }
