@@ -104,10 +104,7 @@ fn one_page(context: &Context, page: &Page, bytes: &mut [u8], given: &mut [bool]
     for number in first..=last {
         match given.get_mut(number as usize) {
             None => {
-                return fault(
-                    page.first.column,
-                    format!("page {number} is past this map, which has {} pages", given.len()),
-                )
+                return fault(page.first.column, format!("page {number} is past this map of {} pages", given.len()))
             }
             Some(true) => return fault(page.first.column, format!("page {number} is given twice")),
             Some(seen) => *seen = true,

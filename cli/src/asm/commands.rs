@@ -1,11 +1,11 @@
 //! A command with its operands.
 
-use super::cursor::{is_command, Cursor};
+use super::cursor::{is_command, is_reserved, Cursor};
 use super::errors::{fault, Fault};
-use super::syntax::{Kind, Written};
-use crate::forms;
-use crate::lists;
+use super::lexer;
+use super::syntax::{Expression, Kind, Written};
 use crate::table::{self, Command, Operand, Role, Size};
+use crate::{forms, lists, options};
 
 /// A command; its name is the next lexeme, or the next two for SYSTEM CALL.
 pub fn command(cursor: &mut Cursor) -> Result<Kind, Fault> {
@@ -19,8 +19,12 @@ pub fn command(cursor: &mut Cursor) -> Result<Kind, Fault> {
     let Some(command) = candidates.iter().find(|command| command.operands.len() == operands.len()) else {
         let counts = candidates.iter().map(|command| command.operands.len().to_string());
         let title = candidates.first().map_or(name, |command| command.title());
-        let expected = lists::or(&counts.collect::<Vec<_>>());
-        return fault(column, format!("{title} has {expected} operands, found {}", operands.len()));
+        let expected = match lists::or(&counts.collect::<Vec<_>>()).as_str() {
+            "0" => "no operands".to_string(),
+            "1" => "1 operand".to_string(),
+            several => format!("{several} operands"),
+        };
+        return fault(column, format!("{title} has {expected}, found {}", operands.len()));
     };
     for (place, (operand, rule)) in operands.iter().zip(command.operands).enumerate() {
         check(operand, *rule, place + 1, &command.title())?;
@@ -38,15 +42,31 @@ fn name(cursor: &mut Cursor) -> Result<String, Fault> {
         };
     }
     if !is_command(word) {
-        let capitals = word.to_ascii_uppercase();
-        let hint = match is_command(&capitals) {
-            true => format!("commands are written in capitals: {capitals}"),
-            false => "expected a command, a directive, or a name with ':' behind it".to_string(),
-        };
-        return fault(cursor.column(), format!("'{}' is not known: {hint}", super::lexer::shown(word)));
+        return fault(cursor.column(), format!("'{}' is not known: {}", lexer::shown(word), meant(word)));
     }
     cursor.advance();
     Ok(word.to_string())
+}
+
+/// Commands of MI that the desk does not have.
+const MI_ALONE: &str =
+    "CHMK EXT EXTS FINDC FINDS INS JBCCI JBSSI JNC JNV LBPSW LIPL LMAPEN LPCB LPCBADR LRKMAP LSB LSCBADR \
+    LSL REI RKALARM SBPSW SPIPL SPMAPEN SPPCB SPPCBADR SPRKMAP SPSB SPSCBADR SPSL";
+
+/// What a word may have been meant as.
+fn meant(word: &str) -> String {
+    let capitals = word.to_ascii_uppercase();
+    if is_command(&capitals) || is_reserved(&capitals) {
+        return format!("commands and directives are written in capitals: {capitals}");
+    }
+    if MI_ALONE.split(' ').any(|name| name == word) {
+        return "MI has this command, the desk does not".to_string();
+    }
+    let names = table::commands().map(|command| command.name);
+    match options::nearest(word, names).filter(|name| name.chars().next() == word.chars().next() && word.len() > 2) {
+        Some(name) => format!("did you mean {name}?"),
+        None => "expected a command, a directive, or a name with ':' behind it".to_string(),
+    }
 }
 
 fn size(cursor: &mut Cursor, name: &str) -> Result<Size, Fault> {
@@ -112,7 +132,7 @@ fn begins_expression(cursor: &Cursor) -> bool {
 }
 
 /// `+!Rx` behind a sum, and an index.
-fn relative(cursor: &mut Cursor, column: usize, z: Option<super::syntax::Expression>) -> Result<Written, Fault> {
+fn relative(cursor: &mut Cursor, column: usize, z: Option<Expression>) -> Result<Written, Fault> {
     cursor.need_mark('+')?;
     cursor.need_mark('!')?;
     let x = cursor.register()?;
@@ -127,12 +147,9 @@ fn exclamation(cursor: &mut Cursor, column: usize) -> Result<Written, Fault> {
     let (x, z) = if cursor.take_mark('!') {
         (cursor.register()?, None)
     } else if cursor.take_mark('(') {
-        let inner = operand(cursor)?;
-        if inner.form != forms::BASE {
-            return fault(inner.column, "expected z+!Rx or !Rx inside !( )");
-        }
+        let inside = within(cursor)?;
         cursor.need_mark(')')?;
-        (inner.x, inner.z)
+        inside
     } else {
         return direct(cursor, column);
     };
@@ -141,12 +158,28 @@ fn exclamation(cursor: &mut Cursor, column: usize) -> Result<Written, Fault> {
     Ok(Written { form, x, y: y.unwrap_or(0), z, column })
 }
 
+/// `z+!Rx` or `!Rx`, between the brackets of `!( )`.
+fn within(cursor: &mut Cursor) -> Result<(u8, Option<Expression>), Fault> {
+    if !cursor.is_mark('!') && !begins_expression(cursor) {
+        return cursor.expected("z+!Rx or !Rx inside !( )");
+    }
+    let z = if cursor.is_mark('!') { None } else { Some(cursor.expression()?) };
+    if z.is_some() {
+        cursor.need_mark('+')?;
+    }
+    cursor.need_mark('!')?;
+    Ok((cursor.register()?, z))
+}
+
 fn direct(cursor: &mut Cursor, column: usize) -> Result<Written, Fault> {
     if cursor.peek_word().and_then(super::cursor::register).is_none() {
         return cursor.expected("a register, '!' or '('");
     }
     let x = cursor.register()?;
     if cursor.take_mark('+') {
+        if !cursor.is_done() && !cursor.is_mark(',') {
+            return cursor.expected("',' or the end behind !Rx+ (a number stands before it: 4+!Rx)");
+        }
         return Ok(Written { form: forms::STEP_UP, x, y: 0, z: None, column });
     }
     let y = index(cursor)?;
@@ -172,12 +205,10 @@ fn check(operand: &Written, rule: Operand, place: usize, title: &str) -> Result<
     if forms::role_allows(operand.form, rule.role) {
         return Ok(());
     }
-    let found = if operand.form == forms::VALUE { "a value (I ..)" } else { "a register" };
-    let sentence = match rule.role {
-        Role::Address => {
-            format!("operand {place} of {title} is an address: {found} has none; write !Rx for the address in Rx")
-        }
-        _ => format!("operand {place} of {title} is written: {found} cannot be"),
+    let sentence = match (rule.role, operand.form) {
+        (Role::Address, forms::VALUE) => "is an address: leave out I",
+        (Role::Address, _) => "is an address, and a register has none: write !Rx for the address in Rx",
+        _ => "is written to, and a value (I ..) cannot be",
     };
-    fault(operand.column, sentence)
+    fault(operand.column, format!("operand {place} of {title} {sentence}"))
 }

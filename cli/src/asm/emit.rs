@@ -21,6 +21,9 @@ pub fn emit(statements: &[Statement], layout: &Layout, errors: &mut Errors) -> V
     let end = layout.positions.iter().filter(|p| p.length > 0).map(|p| p.real as usize + p.length as usize).max();
     let mut memory = vec![0; end.unwrap_or(0)];
     for (statement, position) in statements.iter().zip(&layout.positions) {
+        if position.failed {
+            continue;
+        }
         let context = Context { symbols: &layout.symbols, position: *position };
         let bytes = context.bytes(statement, errors);
         let at = position.real as usize;

@@ -18,6 +18,8 @@ pub struct Position {
     pub real: u32,
     pub length: u32,
     pub is_virtual: bool,
+    /// Its place or its length could not be told; it gives no bytes, and no more complaints.
+    pub failed: bool,
 }
 
 pub struct Layout {
@@ -55,12 +57,11 @@ pub fn layout(statements: &[Statement], errors: &mut Errors) -> Layout {
 
 impl Builder<'_> {
     fn statement(&mut self, statement: &Statement) -> Position {
-        let length = self.place(statement).unwrap_or_else(|fault| {
-            self.errors.add(statement.line, fault);
-            0
-        });
+        let placed = self.place(statement);
+        let (length, failed) = (*placed.as_ref().unwrap_or(&0), placed.is_err());
+        self.errors.keep(statement.line, placed);
         let (segment, real, is_virtual) = (self.segment, self.real, self.shift.is_some());
-        let position = Position { segment, address: self.address(), real, length, is_virtual };
+        let position = Position { segment, address: self.address(), real, length, is_virtual, failed };
         self.labels(statement);
         self.real = self.real.saturating_add(length);
         position
@@ -85,7 +86,7 @@ impl Builder<'_> {
                 ),
             );
         }
-        match u64::from(self.real) + length <= LARGEST as u64 {
+        match length.saturating_add(u64::from(self.real)) <= LARGEST as u64 {
             true => Ok(length as u32),
             false => fault(statement.column, format!("this goes past the largest memory, {LARGEST} bytes")),
         }

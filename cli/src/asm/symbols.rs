@@ -3,7 +3,7 @@
 use super::errors::{fault, Fault};
 use super::lexer::shown;
 use super::syntax::{Expression, Item};
-use crate::{lists, notation};
+use crate::{lists, notation, options};
 use std::collections::{BTreeMap, BTreeSet};
 
 /// Where a name stands.
@@ -142,8 +142,15 @@ impl Symbols {
             _ if self.labels.contains(name) => {
                 fault(column, format!("'{}' is not known yet: expected a name that stands above", shown(name)))
             }
-            _ => fault(column, format!("there is no name '{}'", shown(name))),
+            _ => fault(column, self.no_name(name)),
         }
+    }
+
+    fn no_name(&self, name: &str) -> String {
+        let labels = self.labels.iter().map(String::as_str);
+        let meant = options::nearest(name, labels).filter(|_| name.len() > 2);
+        let hint = meant.map_or(String::new(), |meant| format!("; did you mean {meant}?"));
+        format!("there is no name '{}'{hint}", shown(name))
     }
 
     /// A sum as a word: from the lowest signed number to the highest unsigned one.
