@@ -79,7 +79,7 @@ pub fn value(z: u32, size: Size) -> String {
 pub fn hexadecimal(number: u32) -> String {
     match number {
         0..=9 => number.to_string(),
-        0..=0x00FF_FFFF => format!("{number:X}h"),
+        10..=0x00FF_FFFF => format!("{number:X}h"),
         _ => format!("{number:08X}h"),
     }
 }

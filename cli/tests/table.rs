@@ -3,7 +3,7 @@
 
 use desk::decode::Fields;
 use desk::forms;
-use desk::table::{command, Command, Flow, Mode, Operand, Role, Size};
+use desk::table::{command, Command, Flow, Mode, Operand, Role};
 use midesk::{Desk, Event, Mark};
 
 const COMMAND: u32 = 0x600;
@@ -229,7 +229,7 @@ fn flows_are_where_r15_goes() {
             }
         }
         let all = |place| places.iter().all(|found| *found == (place, Mark::Running));
-        let each = |place| places.iter().any(|found| *found == (place, Mark::Running));
+        let each = |place| places.contains(&(place, Mark::Running));
         let flow = match command.flow {
             Flow::Next => all(next),
             Flow::Jump | Flow::Call => all(target),

@@ -77,7 +77,7 @@ impl Builder<'_> {
             return self.begin_segment(address.as_ref(), at.as_ref()).map(|()| 0);
         }
         let length = sizes::length(statement, self.real, &self.symbols, self.segment)?;
-        if sizes::is_block(&statement.kind) && self.real % 4 != 0 {
+        if sizes::is_block(&statement.kind) && !self.real.is_multiple_of(4) {
             let here = hexadecimal(self.real);
             return fault(
                 statement.column,

@@ -70,7 +70,7 @@ pub fn assembled(
 
 fn extend(bytes: &mut Vec<u8>, length: u32, statement: &Statement, errors: &mut Errors) {
     let column = statement.column;
-    let allowed = length > 0 && length % 512 == 0 && length as usize <= image::LARGEST;
+    let allowed = length > 0 && length.is_multiple_of(512) && length as usize <= image::LARGEST;
     if !allowed {
         let sentence =
             format!("expected a memory of 512 to {} bytes, a multiple of 512, found {length}", image::LARGEST);

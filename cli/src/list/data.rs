@@ -27,7 +27,7 @@ pub fn before_zeros(real: u32, bytes: &[u8], size: Option<Size>) -> usize {
 
 /// The size of values at an address: that with which a command uses them, or words at multiples of 4.
 fn element(real: u32, size: Option<Size>) -> Size {
-    size.unwrap_or(if real % 4 == 0 { Size::W } else { Size::B })
+    size.unwrap_or(if real.is_multiple_of(4) { Size::W } else { Size::B })
 }
 
 /// The rows of a piece; `size` is that with which a command uses it.

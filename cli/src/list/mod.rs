@@ -38,7 +38,7 @@ pub fn listing(image: &Image, title: &str) -> String {
     let mut ground = Ground::new(image);
     let mut blocks = BTreeMap::new();
     let places = blocks::kernel_places(&image.memory, image.system);
-    if image.system % 4 == 0 && !places.is_empty() && ground.take(image.system, asm::fields::SYSTEM_BLOCK, true) {
+    if image.system.is_multiple_of(4) && !places.is_empty() && ground.take(image.system, asm::fields::SYSTEM_BLOCK, true) {
         blocks.insert(image.system, Block::System);
     }
     let trial = if image.lines.is_empty() { trial::run(image) } else { Trial::default() };
@@ -96,7 +96,7 @@ fn program_code(image: &Image, programs: &[Program], ground: &mut Ground, trial:
 
 fn add_programs(image: &Image, programs: &mut Vec<Program>, control_blocks: &[u32]) {
     for block in control_blocks.iter().copied() {
-        if block % 4 == 0 && programs.iter().all(|program| program.control_block != block) {
+        if block.is_multiple_of(4) && programs.iter().all(|program| program.control_block != block) {
             programs.extend(trial::program(&image.memory, block, programs.len()));
         }
     }
@@ -107,11 +107,11 @@ fn take_blocks(image: &Image, programs: &[Program], ground: &mut Ground, blocks:
     for (place, program) in programs.iter().enumerate() {
         let block = program.control_block;
         let inside = view::word(&image.memory, block.saturating_add(asm::fields::LENGTH)).is_some();
-        if inside && block % 4 == 0 && ground.take(block, asm::fields::CONTROL_BLOCK, true) {
+        if inside && block.is_multiple_of(4) && ground.take(block, asm::fields::CONTROL_BLOCK, true) {
             blocks.insert(block, Block::Control(place));
         }
         let (base, length) = (program.map_base, program.map_length);
-        if base % 4 == 0 && (1..=LONGEST_MAP).contains(&length) && ground.take(base, 4 * length, true) {
+        if base.is_multiple_of(4) && (1..=LONGEST_MAP).contains(&length) && ground.take(base, 4 * length, true) {
             blocks.insert(base, Block::Map(place));
         }
     }
