@@ -1,6 +1,7 @@
 //! What a FILE is: a source (.mi), commented hexadecimal (.hex) or the bytes themselves, into one image.
 
 use crate::names::Names;
+use crate::table::Size;
 use crate::{asm, hex};
 use std::fmt;
 use std::fs::File;
@@ -41,6 +42,8 @@ pub struct SourceLine {
     pub is_command: bool,
     /// The virtual address, where the segment has AT.
     pub at: Option<u32>,
+    /// The size of the first value, where it is data.
+    pub size: Option<Size>,
 }
 
 /// What is wrong with a file, and where. Line and column count from 1; 0 where there is none.

@@ -3,10 +3,12 @@
 use super::errors::{Errors, Fault};
 use super::fields;
 use super::layout::{Layout, Position};
-use super::syntax::{Kind, Statement};
+use super::sizes;
+use super::syntax::{Datum, Kind, Statement};
 use crate::image::{self, Image, Program, SourceLine};
 use crate::names::Names;
 use crate::notation::hexadecimal;
+use crate::table::Size;
 use crate::view;
 
 pub struct Assembled {
@@ -103,11 +105,23 @@ fn lines(source: &str, statements: &[Statement], layout: &Layout) -> Vec<SourceL
             text: text.to_string(),
             is_command: matches!(statement.kind, Kind::Command { .. }),
             at: position.is_virtual.then_some(position.address),
+            size: data_size(&statement.kind, layout, position.segment),
         }
     };
     let mut lines: Vec<SourceLine> = with_bytes.map(line).collect();
     lines.sort_by_key(|line| (line.address, line.line));
     lines
+}
+
+fn data_size(kind: &Kind, layout: &Layout, segment: usize) -> Option<Size> {
+    match kind {
+        Kind::Data(data) => match data.first()? {
+            Datum::Value { size, expression } => sizes::value_size(*size, expression, &layout.symbols, segment).ok(),
+            Datum::Text(_) => Some(Size::B),
+            Datum::Repeated { .. } => None,
+        },
+        _ => None,
+    }
 }
 
 /// A program for each control block, with the names that its map leads to.

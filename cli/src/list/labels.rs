@@ -69,6 +69,7 @@ impl Labels {
 
     /// The names that the image brings. A field of a block has its name from the block.
     fn of_source(&mut self, sources: &Sources) {
+        self.sizes.extend(sources.image.lines.iter().filter_map(|line| Some((line.address, line.size?))));
         let plain = |(name, _): &(&str, u32)| !name.contains('.');
         for (name, real) in sources.image.names.iter().filter(plain) {
             if sources.ground.is_boundary(real) && sources.ground.shown(real).is_none() {

@@ -38,7 +38,10 @@ pub fn listing(image: &Image, title: &str) -> String {
     let mut ground = Ground::new(image);
     let mut blocks = BTreeMap::new();
     let places = blocks::kernel_places(&image.memory, image.system);
-    if image.system.is_multiple_of(4) && !places.is_empty() && ground.take(image.system, asm::fields::SYSTEM_BLOCK, true) {
+    if image.system.is_multiple_of(4)
+        && !places.is_empty()
+        && ground.take(image.system, asm::fields::SYSTEM_BLOCK, true)
+    {
         blocks.insert(image.system, Block::System);
     }
     let trial = if image.lines.is_empty() { trial::run(image) } else { Trial::default() };

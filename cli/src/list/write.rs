@@ -195,7 +195,9 @@ impl Writer<'_> {
         if let Some(trouble) = self.parts.code.troubles.get(&at) {
             let first = bytes.get(..1).unwrap_or(bytes);
             let mut lines = data::rows(at, first, Some(Size::B));
-            lines.iter_mut().for_each(|line| line.remark = remarks::of_trouble(trouble));
+            if !self.remarks.contains_key(&at) {
+                lines.iter_mut().for_each(|line| line.remark = remarks::of_trouble(trouble));
+            }
             return self.put(at, first.len(), lines);
         }
         if zeros == bytes.len() || zeros >= data::LONG {
