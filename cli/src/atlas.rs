@@ -1,17 +1,15 @@
 //! Which program reaches which frames: the programs of a memory with their maps, page by page.
 
-use crate::image::Program;
+use crate::image::{self, Image, Program};
 use crate::machine::Machine;
-use crate::names::Names;
+use crate::trial;
 use crate::view::{self, Damage, Rights};
 use midesk::{numbers, Desk};
 use std::collections::BTreeMap;
 
 /// Pages of one map that are looked at; a memory has at most half as many frames.
 const MOST_PAGES: u32 = 65_536;
-/// Steps of the trial run that finds the programs of a file without names.
-const TRIAL: u32 = 100_000;
-/// Programs that it finds at most.
+/// Programs of a file without names.
 const MOST_PROGRAMS: usize = 64;
 /// Pages of one program that lead to one frame and are counted.
 const MOST_REACHES: usize = 8;
@@ -109,34 +107,22 @@ pub fn pages(memory: &[u8], base: u32, length: u32) -> Vec<Page> {
     (0..length.min(MOST_PAGES)).map_while(page).collect()
 }
 
-/// The programs of a file that names none: the control blocks that RESUME names in a trial run.
+/// The programs of a file that names none: those of a trial run.
 pub fn found_programs(fresh: &Machine) -> Vec<Program> {
-    let mut blocks = resumed(fresh);
-    if blocks.is_empty() {
-        blocks.extend(likely(&fresh.desk, &fresh.memory));
-    }
-    let program = |(place, block): (usize, &u32)| {
-        let name = fresh.known.real.name_of(*block).map_or_else(|| letter(place), str::to_string);
-        let Mapped { map_base, map_length, .. } = mapped(&fresh.memory, &name, *block)?;
-        Some(Program { name, control_block: *block, map_base, map_length, names: Names::none() })
+    let desk = &fresh.desk;
+    let image = Image {
+        memory: fresh.memory.clone(),
+        system: desk.system_block(),
+        control: desk.control_block(),
+        start: desk.register(15),
+        ..image::of_bytes(Vec::new())
     };
-    blocks.iter().enumerate().filter_map(program).collect()
-}
-
-fn resumed(fresh: &Machine) -> Vec<u32> {
-    let mut desk = fresh.desk.clone();
-    let mut memory = fresh.memory.clone();
-    let mut blocks: Vec<u32> = Vec::new();
-    for _ in 0..TRIAL {
-        let kernel = desk.is_kernel();
-        if desk.step(&mut memory).is_err() || blocks.len() == MOST_PROGRAMS {
-            break;
-        }
-        if kernel && !desk.is_kernel() && !blocks.contains(&desk.control_block()) {
-            blocks.push(desk.control_block());
-        }
+    let mut blocks = trial::run(&image).blocks;
+    if blocks.is_empty() {
+        blocks.extend(likely(desk, &fresh.memory));
     }
-    blocks
+    let program = |(place, block): (usize, &u32)| trial::program(&fresh.memory, *block, place);
+    blocks.iter().enumerate().filter_map(program).take(MOST_PROGRAMS).collect()
 }
 
 /// The control block of the fresh desk, if it has a map.
@@ -144,12 +130,4 @@ fn likely(desk: &Desk, memory: &[u8]) -> Option<u32> {
     let program = mapped(memory, "", desk.control_block())?;
     let fits = u64::from(program.map_base) + 4 * u64::from(program.map_length) <= memory.len() as u64;
     (program.map_length > 0 && fits).then_some(desk.control_block())
-}
-
-/// A, B, C ..
-fn letter(place: usize) -> String {
-    match u8::try_from(place) {
-        Ok(place @ 0..=25) => char::from(b'A' + place).to_string(),
-        _ => format!("P{}", place + 1),
-    }
 }

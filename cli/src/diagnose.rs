@@ -20,7 +20,7 @@ const JUMP: u8 = 0x70;
 const RESUME: u8 = 0x05;
 const SYSTEM_CALL: u8 = 0x03;
 
-/// What stopped this desk; none for HALT, and where there is no room for the copy's blocks.
+/// What stopped this desk; none for HALT, and in kernel mode where there is no room for the copy's blocks.
 pub fn of(desk: &Desk, memory: &[u8]) -> Option<Finding> {
     let mut desk = desk.clone();
     desk.set_mark(Mark::Running);
@@ -34,9 +34,13 @@ fn in_user_mode(mut desk: Desk, memory: &[u8]) -> Option<Finding> {
     if let Some(level) = due(&desk) {
         return Some(Finding::Cause(numbers::interrupt(level), level));
     }
-    let mut copy = longer(memory, 512)?;
+    let (mut copy, at) = match longer(memory, 512) {
+        Some(copy) => (copy, memory.len()),
+        // The longest memory: the entries go where the system block is, which the program hardly reads.
+        None => (memory.to_vec(), desk.system_block() as usize),
+    };
     hide(&mut copy, &desk, memory.len());
-    desk.set_blocks(entries(&mut copy, memory.len())?, desk.control_block());
+    desk.set_blocks(entries(&mut copy, at)?, desk.control_block());
     outcome(desk, copy)
 }
 
@@ -100,7 +104,7 @@ fn entries(memory: &mut [u8], at: usize) -> Option<u32> {
 
 /// Entries that name the frames added behind the memory stay damaged.
 fn hide(memory: &mut [u8], desk: &Desk, length: usize) {
-    let added = (length / 512) as u32..=(memory.len() / 512) as u32;
+    let added = (length / 512) as u32..(memory.len() / 512) as u32;
     for page in 0..desk.map_length() {
         let at = desk.map_base().wrapping_add(4 * page);
         match view::word(memory, at) {

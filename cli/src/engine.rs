@@ -19,10 +19,10 @@ pub struct Ran {
 /// So many steps are made singly at the beginning, and again at the end of a long run, to see the kernel entries there.
 const SINGLY: u64 = 10_000;
 
-/// The steps of a piece: enough that the copy of the memory before it costs little.
-fn piece(memory: usize) -> u64 {
-    1_000_000 + memory as u64 / 2
-}
+/// The steps of a piece.
+const PIECE: u64 = 1_000_000;
+/// The longest memory that is copied before each piece, so that its last steps can be made again; a longer one would cost time.
+const COPIED: usize = 1 << 20;
 
 /// Runs the machine by the plan.
 pub fn run(machine: &mut Machine, plan: &Plan, show: &mut Show) -> io::Result<Ran> {
@@ -119,7 +119,11 @@ impl Runner<'_> {
     /// Large pieces up to the end.
     fn in_pieces(&mut self) -> End {
         let mut progress = Progress::start(self.machine.steps);
-        let mut kept = self.machine.memory.clone();
+        let mut kept = match self.machine.memory.len() <= COPIED {
+            true => self.machine.memory.clone(),
+            false => Vec::new(),
+        };
+        self.entry = None;
         loop {
             if let Err(refusal) = self.request() {
                 return End::Refused(refusal);
@@ -128,7 +132,9 @@ impl Runner<'_> {
             if wanted == 0 {
                 return End::Limit;
             }
-            kept.copy_from_slice(&self.machine.memory);
+            if !kept.is_empty() {
+                kept.copy_from_slice(&self.machine.memory);
+            }
             let before = self.machine.desk.clone();
             let made = match self.machine.desk.run(&mut self.machine.memory, wanted) {
                 Ok(made) => made,
@@ -137,7 +143,9 @@ impl Runner<'_> {
             self.machine.steps += made;
             progress.show(self.machine.steps);
             if let Mark::Stopped(number) = self.machine.desk.mark() {
-                self.last_steps_again(before, &kept, made);
+                if !kept.is_empty() {
+                    self.last_steps_again(before, &kept, made);
+                }
                 return End::Stopped(number);
             }
         }
@@ -146,7 +154,7 @@ impl Runner<'_> {
     /// The step before which a piece ends: the limit, a request, or the piece's length.
     fn next_pause(&self) -> u64 {
         let request = self.plan.requests.get(self.requests).map_or(u64::MAX, |(step, _)| step - 1);
-        let piece = self.machine.steps.saturating_add(piece(self.machine.memory.len()));
+        let piece = self.machine.steps.saturating_add(PIECE);
         piece.min(request).min(self.plan.limit)
     }
 

@@ -51,7 +51,7 @@ const WORDS: [&str; 40] = [
 
 fn script(random: &mut Random) -> String {
     let mut script = String::new();
-    for _ in 0..random.below(12) {
+    for _ in 0..random.below(60) {
         for _ in 0..random.below(4) {
             let word: &&str = random.pick(&WORDS);
             script.push_str(word);
@@ -78,7 +78,7 @@ fn answer(machine: Machine, script: &[u8]) -> (String, u8) {
 #[test]
 fn no_script_panics() {
     let mut random = Random(23);
-    for _ in 0..300 {
+    for _ in 0..40 {
         let Ok(machine) = Machine::fresh(images::random(&mut random)) else { continue };
         let text = script(&mut random).replace("until", "step").replace("u ", "s ").replace("entry", "3");
         let (_, status) = answer(machine, text.as_bytes());
@@ -89,7 +89,7 @@ fn no_script_panics() {
 #[test]
 fn damaged_bytes_are_answered() {
     let mut random = Random(29);
-    for _ in 0..300 {
+    for _ in 0..40 {
         let machine = Machine::fresh(images::random(&mut random)).expect("a desk");
         let bytes: Vec<u8> = (0..random.below(80)).map(|_| *random.pick(b"sx0129hlm \n\n\0\xFF\xC3ir?")).collect();
         answer(machine, &bytes);
@@ -101,7 +101,7 @@ fn damaged_bytes_are_answered() {
 fn undo_leads_back() {
     let mut random = Random(31);
     let looks = "registers\nmemory real 0 4096\nblocks\nwhere\n";
-    for _ in 0..200 {
+    for _ in 0..40 {
         let Ok(machine) = Machine::fresh(images::random(&mut random)) else { continue };
         let (before, _) = answer(machine.clone(), looks.as_bytes());
         let script =
