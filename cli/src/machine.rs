@@ -144,12 +144,12 @@ impl Known {
         place(self.names(desk), address)
     }
 
-    /// Who runs: `kernel mode`, `program A`, `the program of block 100h`.
+    /// Who runs: `the kernel`, `program A`, `the program of block 100h`.
     pub fn who(&self, desk: &Desk) -> String {
         match (desk.is_kernel(), self.program(desk)) {
             (true, _) => "the kernel".to_string(),
             (false, Some(program)) => format!("program {}", program.name),
-            (false, None) => format!("the program of the block at {}", self.real_place(desk.control_block())),
+            (false, None) => format!("the program of block {}", self.real_place(desk.control_block())),
         }
     }
 

@@ -11,14 +11,14 @@ use crate::words;
 use midesk::{numbers, Desk, Event};
 
 /// The head of the columns.
-pub const HEAD: &str = " step mode   address  command                                   flags  changes";
+pub const HEAD: &str = " step mode   address  command                               flags  changes";
 
 /// The step's lines; `memory` is the memory after it. A kernel entry has lines of its own.
 pub fn lines(known: &Known, memory: &[u8], step: &Step) -> Vec<String> {
     let mut parts = changes(known, step);
     parts.extend(outcome(known, step));
     let head = format!(
-        "{:5} {:6} {:>7}  {:40}  {}   {}",
+        "{:5} {:6} {:>7}  {:36}  {}   {}",
         step.number,
         words::mode(step.before.is_kernel()),
         address(step.before.register(15)),

@@ -44,9 +44,9 @@ fn lines_from_standard_input() {
     child.stdin.take().expect("its input").write_all(b"step\n\nfly\nwhere").expect("lines");
     let output = child.wait_with_output().expect("its end");
     assert_eq!(output.status.code(), Some(65));
-    let expected = "    1 kernel    200h  start: RESUME block                       ----   to user mode: program block goes on at program (0)\n\
+    let expected = "    1 kernel    200h  start: RESUME block                   ----   to user mode: program block goes on at program (0)\n\
         next: program block at program (0): SYSTEM CALL I 21 (line 44)\n\
-        \x20   2 user      000h  program: SYSTEM CALL I 21                 ----\n\
+        \x20   2 user      000h  program: SYSTEM CALL I 21             ----\n\
         \x20            kernel entry, cause 1: a system call, argument 15h (21); goes on at call (207h)\n\
         next: the kernel at call (207h): CMP W I 0,block.argument (line 27)\n\
         line 3: there is no command 'fly'; `help` lists them\n\
