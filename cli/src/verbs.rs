@@ -147,7 +147,7 @@ pub const VERBS: &[Verb] = &[
         operands: "FILE",
         count: (1, 1),
         summary: "lists a program: address, bytes, command and operands in MI's notation",
-        options: &[output("writes the listing to FILE instead of standard output")],
+        options: &[output("writes the listing to FILE instead of standard output"), MEMORY, SYSTEM, CONTROL, START],
         text: &[Say("Code is found by following it from the start, from the entries of the system block and from the control blocks through their maps; everything else is data. `desk asm` takes the listing as a source and gives the same bytes.")],
     },
     Verb {

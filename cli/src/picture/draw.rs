@@ -216,7 +216,8 @@ impl Drawing<'_> {
             let from = (i64::from(thing.at) - start as i64).clamp(0, 512);
             let to = (i64::from(thing.at) + i64::from(thing.length) - start as i64).clamp(0, 512);
             let place = Box { x: scaled(from), y, width: (scaled(to) - scaled(from)).max(3), height: 6 };
-            self.svg.rect(place, thing.program.map_or(INK, colour), "none", "");
+            // A light edge keeps neighbours apart, in grey too.
+            self.svg.rect(place, thing.program.map_or(INK, colour), PAPER, r#"stroke-width="0.8""#);
         }
     }
 
