@@ -1,6 +1,8 @@
 //! `desk picture FILE`: the memory as SVG. Frames are rows, programs are columns; a cell is a page of the program.
 
 mod draw;
+mod foot;
+mod frames;
 mod rows;
 mod svg;
 
