@@ -156,7 +156,16 @@ pub const VERBS: &[Verb] = &[
         count: (1, 1),
         summary: "assembles a source in MI's notation",
         options: &[output("the file for the bytes")],
-        text: &[Say("Errors come with line, column, what was found and what was expected, several in one go. examples/README.md says how a source is written.")],
+        text: &[
+            Say("Errors come with line, column, what was found and what was expected, several in one go. docs/MACHINE.md tells more of the language, under Sources; examples/ has programs."),
+            Table(crate::asm::reference::LINES),
+            Say("Operands. The destination is the last one."),
+            Table(&crate::forms::SUMMARY),
+            Say("Commands; s is the size: B, H or W, of 1, 2 or 4 bytes."),
+            Table(&crate::table::SUMMARY),
+            Say("Data, places, blocks and maps."),
+            Table(crate::asm::reference::DIRECTIVES),
+        ],
     },
     Verb {
         name: "map",

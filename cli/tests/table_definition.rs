@@ -2,7 +2,7 @@
 
 mod common;
 
-use desk::table::{command, commands, Mode, Operand, Role, Size};
+use desk::table::{command, commands, Mode, Operand, Role, Size, SUMMARY};
 
 /// The rows of the definition, read as text.
 #[test]
@@ -33,6 +33,19 @@ fn names_and_rows_are_those_of_the_definition() {
     }
     assert_eq!(rows, 39);
     assert_eq!(bytes, commands().map(|command| command.byte).collect::<Vec<_>>());
+}
+
+/// What the help says of a row is written as the row is: its name, s where it has sizes, and as many operands.
+#[test]
+fn usages_are_those_of_the_rows() {
+    let mut usages = Vec::new();
+    for found in commands().filter(|command| command.size.is_none_or(|size| size == Size::B)) {
+        let size = if found.size.is_some() { " s" } else { "" };
+        let operands = ["", " a", " a,b", " a,b,c"][found.operands.len()];
+        usages.push(format!("{}{size}{operands}", found.name));
+    }
+    assert_eq!(SUMMARY.map(|(usage, _)| usage.to_string()).to_vec(), usages);
+    assert!(SUMMARY.iter().all(|(_, does)| !does.is_empty()));
 }
 
 /// `(result MOVE) transport`: the name is the last word of the first part that is no size.

@@ -153,6 +153,9 @@ const RESERVED: &str =
     TO W WORD WRITE";
 
 pub fn is_reserved(word: &str) -> bool {
+    if !word.bytes().all(|byte| byte.is_ascii_uppercase() || byte.is_ascii_digit()) {
+        return false;
+    }
     RESERVED.split(' ').any(|reserved| reserved == word) || register(word).is_some() || is_command(word)
 }
 

@@ -14,6 +14,7 @@ mod layout;
 mod lexer;
 mod macros;
 mod parser;
+pub mod reference;
 mod result;
 mod sizes;
 mod symbols;

@@ -8,7 +8,9 @@ use super::lines::{self, Line};
 use super::{blocks, remarks, Block};
 use crate::asm::fields;
 use crate::decode::Decoded;
+use crate::forms;
 use crate::image::{Image, Program};
+use crate::lists;
 use crate::names::Names;
 use crate::notation::{self, hexadecimal};
 use crate::table::Size;
@@ -172,8 +174,21 @@ impl Writer<'_> {
             let pair: Vec<String> = operand.iter().take(2).map(|byte| format!("{byte:02X}")).collect();
             bytes.push_str(&format!("  {} {word}", pair.join(" ")));
         }
-        let line = Line { real: Some(at), bytes, text, ..Line::default() };
+        let remark = if self.remarks.contains_key(&at) { String::new() } else { self.target(at, space, decoded) };
+        let line = Line { real: Some(at), bytes, text, remark, ..Line::default() };
         self.put(at, decoded.bytes.len(), vec![line])
+    }
+
+    /// Where an operand leads that counts from R15.
+    fn target(&self, at: u32, space: Space, decoded: &Decoded) -> String {
+        let from_r15 = |place: &usize| decoded.operands.get(*place).is_some_and(|fields| fields.form == forms::BASE);
+        let places = (0..decoded.operands.len()).filter(from_r15).filter_map(|place| decoded.fixed_address(place));
+        let targets: Vec<String> = places.map(|address| notation::place(address, self.names(at, space))).collect();
+        if targets.is_empty() {
+            String::new()
+        } else {
+            format!("that is {}", lists::and(&targets))
+        }
     }
 
     /// The names that a command may use: those of its space, where its own place is shown so.

@@ -1,0 +1,103 @@
+//! `desk asm` and `desk list` at the command line: what they write, and the exit status of all that can go wrong.
+
+mod common;
+
+use common::{repository, EXAMPLES};
+use std::path::PathBuf;
+use std::process::{Command, Output};
+
+fn desk(arguments: &[&str]) -> Output {
+    let mut command = Command::new(env!("CARGO_BIN_EXE_desk"));
+    command.current_dir(repository()).args(arguments).output().expect("desk")
+}
+
+/// A file of this test's own, in the folder for temporary files.
+fn scratch(name: &str) -> PathBuf {
+    std::env::temp_dir().join(format!("desk-asm-verbs-{}-{name}", std::process::id()))
+}
+
+fn path(path: &std::path::Path) -> &str {
+    path.to_str().expect("a name")
+}
+
+#[test]
+fn an_example_goes_round() {
+    for example in EXAMPLES {
+        let (bytes, listing, again) = (
+            scratch(&format!("{example}.bin")),
+            scratch(&format!("{example}.mi")),
+            scratch(&format!("{example}.again")),
+        );
+        let source = format!("examples/{example}.mi");
+        let steps: [&[&str]; 3] = [
+            &["asm", &source, "-o", path(&bytes)],
+            &["list", path(&bytes), "--output", path(&listing)],
+            &["asm", "-o", path(&again), path(&listing)],
+        ];
+        for arguments in steps {
+            let output = desk(arguments);
+            assert_eq!(
+                (output.status.code(), output.stdout.len(), output.stderr.len()),
+                (Some(0), 0, 0),
+                "{arguments:?}"
+            );
+        }
+        let mut first = std::fs::read(&bytes).expect("the bytes");
+        first.resize(first.len().next_multiple_of(512), 0);
+        assert!(first == std::fs::read(&again).expect("the bytes"), "{example}");
+        for file in [bytes, listing, again] {
+            let _ = std::fs::remove_file(file);
+        }
+    }
+}
+
+#[test]
+fn a_listing_goes_to_standard_output() {
+    let output = desk(&["list", "examples/sum.mi"]);
+    let text = String::from_utf8(output.stdout).expect("text");
+    assert_eq!(output.status.code(), Some(0));
+    assert!(text.contains("0214  41  08 10 00000000  02 00 00000000 | loop: ADD H !R1+,R0"), "{text}");
+}
+
+#[test]
+fn places_of_a_file_of_bytes_are_given() {
+    let bytes = scratch("places.bin");
+    let mut memory = vec![0; 0x600];
+    memory[0x300] = 0x7A;
+    memory[0x408..0x410].copy_from_slice(&[0, 0, 3, 0, 0x80, 0, 0, 0]);
+    std::fs::write(&bytes, memory).expect("a file");
+    let output = desk(&["list", path(&bytes), "--start", "300h", "--system", "400h", "--control", "500h"]);
+    let _ = std::fs::remove_file(&bytes);
+    let text = String::from_utf8(output.stdout).expect("text");
+    assert!(text.contains("| L300: RET"), "{text}");
+    assert!(text.contains("ON SYSTEM CALL TO L300"), "{text}");
+    assert!(text.contains("START L300"), "{text}");
+}
+
+/// The exit status, and a part of the sentence.
+#[test]
+fn what_goes_wrong_has_a_sentence_and_a_status() {
+    let (bad, text) = (scratch("bad.mi"), scratch("text.mi"));
+    std::fs::write(&bad, "  JUMP nowhere\n  MOVE W R1\n").expect("a file");
+    std::fs::write(&text, b"HALT\n\xFF\xFE\n").expect("a file");
+    let cases: [(&[&str], i32, &str); 9] = [
+        (&["asm"], 64, "SOURCE"),
+        (&["asm", "examples/sum.mi"], 64, "-o FILE"),
+        (&["asm", "a", "b", "-o", "c"], 64, "too many"),
+        (&["asm", "no/such.mi", "-o", "c"], 66, "no/such.mi: cannot be read"),
+        (&["asm", "examples/sum.mi", "-o", "no/such/folder"], 74, "no/such/folder: cannot be written"),
+        (&["asm", path(&bad), "-o", "c"], 65, "bad.mi:1:8: there is no name 'nowhere'"),
+        (&["asm", path(&text), "-o", "c"], 65, "text.mi:2: this line is no text"),
+        (&["list", "no/such.bin"], 66, "no/such.bin: cannot be read"),
+        (&["list", path(&bad)], 65, "bad.mi:2:3: MOVE W has 2 operands, found 1"),
+    ];
+    for (arguments, status, sentence) in cases {
+        let output = desk(arguments);
+        let said = String::from_utf8_lossy(&output.stderr).into_owned();
+        assert_eq!(output.status.code(), Some(status), "{arguments:?}: {said}");
+        assert!(said.contains(sentence), "{arguments:?}: {said}");
+        assert!(output.stdout.is_empty(), "{arguments:?}");
+    }
+    let _ = (std::fs::remove_file(bad), std::fs::remove_file(text));
+    assert!(!repository().join("c").exists());
+}
