@@ -26,7 +26,7 @@ pub fn machine(verb: &str, given: &Given) -> Result<Machine, u8> {
     let (length, system, control) = (image.memory.len(), image.system, image.control);
     Machine::fresh(image).map_err(|refusal| {
         let what = match refusal {
-            Refusal::Length => format!("it has {length} bytes"),
+            Refusal::Length => format!("it has {length} bytes; allowed are multiples of 512, up to 16777216"),
             Refusal::SystemBlock => format!("it is at {system:X}h with 256 bytes, the memory has {length:X}h"),
             _ => format!("it is at {control:X}h with 80 bytes, the memory has {length:X}h"),
         };

@@ -41,7 +41,7 @@ fn refusals_are_told() {
     let (sentence, status) = refused(&["run", &example, "--memory", "1025"]);
     assert_eq!(
         (sentence.as_str(), status),
-        ("desk run: refusal 1: the memory length is not allowed (it has 1025 bytes)\n", 33)
+        ("desk run: refusal 1: the memory length is not allowed (it has 1025 bytes; allowed are multiples of 512, up to 16777216)\n", 33)
     );
     let (sentence, status) = refused(&["run", &example, "--system", "301h"]);
     assert!(

@@ -74,8 +74,8 @@ const ROWS: &[Row] = &[
     row(&["undo", "back"], "undo [N], back", "undoes the last N steps or requests (1); it remembers 100,000", moves::undo),
     row(&["request"], "request LEVEL", "requests an interrupt level, 1 to 15", moves::request),
     row(&["where", "w"], "where, w", "shows how many steps are made and what is next", looks::place),
-    row(&["registers", "info", "i"], "registers, i", "shows registers, mode, level, flags and blocks", looks::registers),
-    row(&["memory", "x"], "memory [real] A [N], x", "shows N bytes (64) from an address on", looks::memory),
+    row(&["registers"], "registers, i", "shows registers, mode, level, flags and blocks", looks::registers),
+    row(&["memory", "x"], "memory [real] A [N], x", "shows N bytes (64) from an address on; x/N A shows N words", looks::memory),
     row(&["list", "l"], "list [A] [N], l", "lists N commands (10) around R15 or from an address on", looks::list),
     row(
         &["map"],
@@ -84,7 +84,8 @@ const ROWS: &[Row] = &[
         looks::map,
     ),
     row(&["blocks", "b"], "blocks, b", "shows the system block and the control blocks", looks::blocks),
-    row(&["help", "h", "?"], "help, h, ?", "lists the commands", help),
+    row(&["info", "i"], "info [WHAT], i", "shows registers, map or blocks", looks::info),
+    row(&["help", "h", "?"], "help [COMMAND], h, ?", "lists the commands, or tells of one", help),
     row(&["quit", "q", "exit"], "quit, q", "ends the dialogue", quit),
 ];
 
@@ -120,10 +121,10 @@ impl Session {
                 line.to_string()
             }
         };
-        let words: Vec<&str> = line.split_whitespace().collect();
+        let spelled = in_words(&line);
+        let words: Vec<&str> = spelled.split_whitespace().collect();
         let Some((name, arguments)) = words.split_first() else { return Ok(()) };
-        let act = ROWS.iter().find(|row| row.names.contains(name)).map(|row| row.act);
-        let act = act.ok_or_else(|| unknown(name))?;
+        let act = find(name).ok_or_else(|| unknown(name))?.act;
         let done = act(self, arguments, out);
         self.last = line;
         done
@@ -139,14 +140,36 @@ fn unknown(name: &str) -> String {
     }
 }
 
-fn help(_: &mut Session, _: &[&str], out: &mut dyn Write) -> Done {
-    let width = COMMANDS.iter().map(|(written, _)| written.len()).max().unwrap_or(0);
-    for (written, text) in COMMANDS {
+/// `x/4 410h`, as gdb has it, is `x 410h 16`.
+fn in_words(line: &str) -> String {
+    let parts = line.split_once('/').and_then(|(name, rest)| {
+        let (words, place) = rest.split_once(' ')?;
+        let words = words.trim_end_matches(char::is_alphabetic).parse::<u32>().ok()?;
+        find(name)
+            .is_some_and(|row| row.names.contains(&"x"))
+            .then(|| format!("{name} {place} {}", u64::from(words) * 4))
+    });
+    parts.unwrap_or_else(|| line.to_string())
+}
+
+fn find(name: &str) -> Option<&'static Row> {
+    ROWS.iter().find(|row| row.names.contains(&name))
+}
+
+fn help(_: &mut Session, arguments: &[&str], out: &mut dyn Write) -> Done {
+    let rows: Vec<(&str, &str)> = match arguments.first() {
+        None => COMMANDS.to_vec(),
+        Some(name) => find(name).map(|row| vec![(row.written, row.text)]).ok_or_else(|| unknown(name))?,
+    };
+    let width = rows.iter().map(|(written, _)| written.len()).max().unwrap_or(0);
+    for (written, text) in rows {
         for line in crate::help::row(written, text, width) {
             writeln!(out, "{line}")?;
         }
     }
-    writeln!(out, "  An empty line repeats the one before it; -- and # start a remark.")?;
+    if arguments.is_empty() {
+        writeln!(out, "  An empty line repeats the one before it; -- and # start a remark.")?;
+    }
     Ok(())
 }
 

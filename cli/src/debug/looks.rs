@@ -7,6 +7,7 @@ use crate::decode::{Decoded, Trouble};
 use crate::dump;
 use crate::effect;
 use crate::hints;
+use crate::image::SourceLine;
 use crate::machine::due;
 use crate::map as map_;
 use crate::names::Names;
@@ -52,6 +53,18 @@ pub fn registers(session: &mut Session, arguments: &[&str], out: &mut dyn Write)
         writeln!(out, "{line}")?;
     }
     Ok(())
+}
+
+/// `info registers`, `info map`, `info blocks`, as gdb has it.
+pub fn info(session: &mut Session, arguments: &[&str], out: &mut dyn Write) -> Done {
+    match arguments.split_first() {
+        None | Some((&("registers" | "r"), [])) => registers(session, &[], out),
+        Some((&"map", rest)) => map(session, rest, out),
+        Some((&"blocks", rest)) => blocks(session, rest, out),
+        Some((other, _)) => {
+            Err(format!("there is no info '{}': registers, map or blocks", options::shown(other)).into())
+        }
+    }
 }
 
 /// An address as the user writes it, with the names of the present mode or, in kernel mode, the real ones.
@@ -119,32 +132,47 @@ pub fn list(session: &mut Session, arguments: &[&str], out: &mut dyn Write) -> D
     Ok(())
 }
 
-/// A line of the list, and where the next one starts. A row of zeros, which are HALTs, is one line.
+/// A line of the list, and where the next one starts.
 fn listed(session: &Session, at: u32) -> (String, u32) {
     let machine = &session.machine;
     let names = machine.known.names(&machine.desk);
-    let r15 = machine.desk.register(15);
-    let mark = if at == r15 { "=>" } else { "  " };
+    let mark = if at == machine.desk.register(15) { "=>" } else { "  " };
     let label = names.name_of(at).map(|name| format!("{name}:")).unwrap_or_default();
-    let (command, next) = match machine.command_at(at) {
+    let real = effect::real(&machine.desk, &machine.memory, at);
+    let line = real.and_then(|real| machine.known.line(real));
+    let (words, next) = match line.filter(|line| !line.is_command).and_then(|line| data(session, line, at)) {
+        Some(data) => data,
+        None => command(session, at),
+    };
+    let line = line.map(|line| format!("line {}", line.line)).unwrap_or_default();
+    (format!("{mark} {:>6}  {label:10} {words:40} {line}", trace::address(at)), next)
+}
+
+/// The bytes of a line of the source that is no command, and where they end: at most 16 of them.
+fn data(session: &Session, line: &SourceLine, at: u32) -> Option<(String, u32)> {
+    let machine = &session.machine;
+    let following = machine.known.lines.iter().map(|line| line.address).filter(|address| *address > line.address);
+    let length = following.min().map_or(16, |next| next - line.address).min(16);
+    let byte = |i: u32| effect::byte(&machine.desk, &machine.memory, at.wrapping_add(i));
+    let bytes = (0..length).map(byte).collect::<Option<Vec<u8>>>()?;
+    let words: Vec<String> =
+        bytes.chunks(4).map(|word| word.iter().map(|byte| format!("{byte:02X}")).collect()).collect();
+    Some((format!("data {}", words.join(" ")), at.wrapping_add(length)))
+}
+
+/// The command at an address, and the address behind it. A row of zeros, which are HALTs, is one line.
+fn command(session: &Session, at: u32) -> (String, u32) {
+    let machine = &session.machine;
+    let names = machine.known.names(&machine.desk);
+    let zero = |at: u32| effect::byte(&machine.desk, &machine.memory, at) == Some(0);
+    let plain = |at: u32| at != machine.desk.register(15) && names.name_of(at).is_none() && zero(at);
+    let (words, next) = match machine.command_at(at) {
         Ok(command) => (notation::written(&command, names), command.next()),
         Err(trouble) => (hints::trouble(machine.desk.is_kernel(), &trouble), at.wrapping_add(1)),
     };
-    let plain_zero = |at: u32| {
-        at != r15 && names.name_of(at).is_none() && effect::byte(&machine.desk, &machine.memory, at) == Some(0)
-    };
-    let zeros = match effect::byte(&machine.desk, &machine.memory, at) {
-        Some(0) => (1..=MOST as u32).take_while(|i| plain_zero(at.wrapping_add(*i))).count() as u32,
-        _ => 0,
-    };
-    let line = effect::real(&machine.desk, &machine.memory, at).and_then(|real| machine.known.line(real));
-    let line = line.map(|line| format!("line {}", line.line)).unwrap_or_default();
-    match zeros {
-        0 => (format!("{mark} {:>6}  {label:10} {command:40} {line}", trace::address(at)), next),
-        _ => {
-            let command = format!("{command} ({} zeros)", words::count(u64::from(zeros) + 1));
-            (format!("{mark} {:>6}  {label:10} {command:40} {line}", trace::address(at)), at.wrapping_add(zeros + 1))
-        }
+    match (1..=MOST as u32).take_while(|i| zero(at) && plain(at.wrapping_add(*i))).count() as u32 {
+        0 => (words, next),
+        more => (format!("{words} ({} zeros)", words::count(u64::from(more) + 1)), at.wrapping_add(more + 1)),
     }
 }
 
