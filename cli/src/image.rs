@@ -106,9 +106,16 @@ pub fn read(path: &Path) -> Result<Vec<u8>, Vec<Complaint>> {
     }
 }
 
+/// Some editors begin a text with it.
+const BYTE_ORDER_MARK: &[u8] = b"\xEF\xBB\xBF";
+
 /// A file as text.
 pub fn read_text(path: &Path) -> Result<String, Vec<Complaint>> {
-    String::from_utf8(read(path)?).map_err(|e| {
+    let mut bytes = read(path)?;
+    if bytes.starts_with(BYTE_ORDER_MARK) {
+        bytes.drain(..BYTE_ORDER_MARK.len());
+    }
+    String::from_utf8(bytes).map_err(|e| {
         let before = e.as_bytes().get(..e.utf8_error().valid_up_to()).unwrap_or(&[]);
         let line = 1 + before.iter().filter(|byte| **byte == b'\n').count();
         let sentence = "this line is no text (UTF-8); a file of bytes must not end in .mi".to_string();

@@ -57,6 +57,7 @@ fn space_and_alignment() {
 fn statements_end_with_the_line_or_a_semicolon() {
     assert_eq!(bytes("HALT; PUSHR;; POPR -- RET; RET\nRET"), [0, 1, 2, 0x7A]);
     assert_eq!(bytes("a: b:\r\nc: HALT\r\nDD W c-a\r\n"), [0, 0, 0, 0, 0]);
+    assert_eq!(bytes("HALT\rPUSHR\r\nPOPR\n\rRET"), [0, 1, 2, 0x7A]);
     assert_eq!(bytes("HALT\nEND\nnonsense {"), [0]);
 }
 

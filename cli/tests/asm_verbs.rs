@@ -52,6 +52,16 @@ fn an_example_goes_round() {
 }
 
 #[test]
+fn hexadecimal_is_assembled_too() {
+    let (source, bytes) = (scratch("source.hex"), scratch("hexadecimal.bin"));
+    std::fs::write(&source, "0000: 3*01 # three\n@10 FF").expect("a file");
+    assert_eq!(desk(&["asm", path(&source), "-o", path(&bytes)]).status.code(), Some(0));
+    let found = std::fs::read(&bytes).expect("the bytes");
+    assert_eq!((found.len(), &found[..4], found[16]), (17, &[1, 1, 1, 0][..], 0xFF));
+    let _ = (std::fs::remove_file(source), std::fs::remove_file(bytes));
+}
+
+#[test]
 fn a_listing_goes_to_standard_output() {
     let output = desk(&["list", "examples/sum.mi"]);
     let text = String::from_utf8(output.stdout).expect("text");

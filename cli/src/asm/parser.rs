@@ -27,7 +27,7 @@ pub fn parse(source: &str, errors: &mut Errors) -> Vec<Statement> {
 
 /// The lines, however they end.
 pub fn lines(source: &str) -> impl Iterator<Item = &str> {
-    source.split('\n').map(|line| line.strip_suffix('\r').unwrap_or(line))
+    source.split('\n').flat_map(|line| line.strip_suffix('\r').unwrap_or(line).split('\r'))
 }
 
 impl Parser<'_> {

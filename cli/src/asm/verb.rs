@@ -1,6 +1,7 @@
 //! `desk asm SOURCE -o FILE`.
 
-use crate::{image, options, output};
+use crate::image::{self, Complaint};
+use crate::{hex, options, output};
 use std::path::Path;
 
 pub fn main(arguments: &[String]) -> u8 {
@@ -11,12 +12,17 @@ pub fn main(arguments: &[String]) -> u8 {
     let (Some(source), Some(target)) = (given.operands.first(), given.value("--output")) else {
         return options::usage("asm", "it needs a file for the bytes, -o FILE");
     };
-    let text = match image::read_text(Path::new(source)) {
-        Ok(text) => text,
-        Err(complaints) => return output::complain(&complaints),
-    };
-    match super::assemble(source, &text) {
+    match bytes(source) {
         Err(complaints) => output::complain(&complaints),
-        Ok(assembled) => output::write(target, &assembled.bytes),
+        Ok(bytes) => output::write(target, &bytes),
+    }
+}
+
+/// The bytes of a source, also of one in hexadecimal.
+fn bytes(source: &str) -> Result<Vec<u8>, Vec<Complaint>> {
+    let path = Path::new(source);
+    match path.extension().and_then(|ending| ending.to_str()) {
+        Some("hex") => hex::bytes(source, &image::read(path)?),
+        _ => Ok(super::assemble(source, &image::read_text(path)?)?.bytes),
     }
 }
