@@ -1,6 +1,7 @@
 //! `desk help`, `desk help VERB` and the man page: the table in `verbs.rs` as plain lines and as roff.
 
-use crate::verbs::{self, Opt, Text, Verb, GENERAL, VERBS};
+use crate::topics::{self, Topic, TOPICS};
+use crate::verbs::{self, Opt, Text, Verb, VERBS};
 use crate::{options, output, words};
 
 const WIDTH: usize = 80;
@@ -15,10 +16,12 @@ pub fn main(arguments: &[String]) -> u8 {
     };
     let text = match given.operands.first() {
         _ if given.has("--man") => man_page(),
+        _ if given.has("--version") => version(),
         None => overview(),
-        Some(name) => match verbs::verb(name) {
-            Some(verb) => of_verb(verb),
-            None => return options::usage("help", &unknown(name)),
+        Some(name) => match (verbs::verb(name), topics::topic(name)) {
+            (Some(verb), _) => of_verb(verb),
+            (None, Some(topic)) => joined(of_topic(topic)),
+            (None, None) => return options::usage("help", &unknown(name)),
         },
     };
     match output::out(&text) {
@@ -27,10 +30,18 @@ pub fn main(arguments: &[String]) -> u8 {
     }
 }
 
+/// The versions of the command and of the library.
+fn version() -> String {
+    let [_, major, minor, patch] = midesk::version().to_be_bytes();
+    format!("desk {}, over libmidesk {major}.{minor}.{patch}\n", env!("CARGO_PKG_VERSION"))
+}
+
 /// The sentence for a verb that there is not.
 pub fn unknown(name: &str) -> String {
     let names: Vec<&str> = VERBS.iter().map(|verb| verb.name).collect();
-    format!("there is no verb '{}'; the verbs are {}", options::shown(name), names.join(", "))
+    let topics: Vec<&str> = TOPICS.iter().map(|topic| topic.name).collect();
+    let (verbs, topics) = (names.join(", "), topics.join(", "));
+    format!("there is no verb '{}'; the verbs are {verbs}, and help also knows {topics}", options::shown(name))
 }
 
 /// `desk help`.
@@ -39,12 +50,20 @@ pub fn overview() -> String {
     let width = VERBS.iter().map(|verb| synopsis(verb).len()).max().unwrap_or(0);
     lines.extend(VERBS.iter().flat_map(|verb| row(&synopsis(verb), verb.summary, width)));
     lines.push(String::new());
-    lines.extend(wrapped("`desk help VERB` tells a verb's options, `desk help --man` writes the man page.", 0));
-    for (title, text) in GENERAL {
-        lines.extend([String::new(), title.to_string()]);
-        lines.extend(plain(text));
+    let more = "`desk help VERB` tells a verb's options, `desk help stops` what the numbers of stops and alarms mean, `desk help --man` writes the man page.";
+    lines.extend(wrapped(more, 0));
+    for topic in TOPICS.iter().filter(|topic| topic.in_overview) {
+        lines.push(String::new());
+        lines.extend(of_topic(topic));
     }
     joined(lines)
+}
+
+/// `desk help TOPIC`.
+fn of_topic(topic: &Topic) -> Vec<String> {
+    let mut lines = vec![topic.title.to_string()];
+    lines.extend(plain(topic.text));
+    lines
 }
 
 /// `desk help VERB`.
@@ -131,9 +150,9 @@ pub fn man_page() -> String {
     roff.extend(VERBS.iter().map(man_synopsis));
     roff.extend([".fi".to_string(), ".SH DESCRIPTION".to_string(), escaped(INTRODUCTION)]);
     roff.extend(VERBS.iter().flat_map(man_verb));
-    for (title, text) in GENERAL {
-        roff.push(format!(".SH {title}"));
-        roff.extend(man_text(text));
+    for topic in TOPICS {
+        roff.push(format!(".SH {}", topic.title));
+        roff.extend(man_text(topic.text));
     }
     joined(roff)
 }
@@ -210,7 +229,8 @@ mod tests {
 
     #[test]
     fn lines_fit() {
-        let all = VERBS.iter().map(of_verb).chain([overview()]);
+        let topics = TOPICS.iter().map(|topic| joined(of_topic(topic)));
+        let all = VERBS.iter().map(of_verb).chain(topics).chain([overview()]);
         for text in all {
             for line in text.lines() {
                 assert!(line.chars().count() <= WIDTH, "{line}");

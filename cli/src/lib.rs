@@ -33,6 +33,7 @@ pub mod run;
 pub mod setup;
 pub mod show;
 pub mod table;
+pub mod topics;
 pub mod trace;
 pub mod trial;
 pub mod verbs;

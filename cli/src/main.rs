@@ -20,9 +20,10 @@ fn main() -> ExitCode {
     let Some((first, rest)) = arguments.split_first() else {
         return ExitCode::from(help::main(&[]));
     };
-    let wanted = match first.as_str() {
-        "--help" | "-h" => "help",
-        other => other,
+    let (wanted, rest) = match first.as_str() {
+        "--help" | "-h" => ("help", rest),
+        "--version" => ("help", arguments.as_slice()),
+        other => (other, rest),
     };
     match VERBS.iter().find(|(name, _)| *name == wanted) {
         Some((_, verb)) => ExitCode::from(verb(rest)),

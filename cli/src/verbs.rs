@@ -37,7 +37,7 @@ pub enum Text {
     Show(&'static str),
 }
 
-use Text::{Say, Show, Table};
+use Text::{Say, Table};
 
 /// The verb of a name.
 pub fn verb(name: &str) -> Option<&'static Verb> {
@@ -197,48 +197,11 @@ pub const VERBS: &[Verb] = &[
         name: "help",
         operands: "[VERB]",
         count: (0, 1),
-        summary: "says what the verbs do; with a verb, its options",
-        options: &[flag("--man", "writes the man page, as roff: `desk help --man > desk.1`")],
+        summary: "says what the verbs do; of a verb, its options",
+        options: &[
+            flag("--man", "writes the man page, as roff: `desk help --man > desk.1`"),
+            flag("--version", "writes the versions of the command and of the proved library; also `desk --version`"),
+        ],
         text: &[],
     },
-];
-
-/// What is said of all verbs.
-pub const GENERAL: &[(&str, &[Text])] = &[
-    (
-        "FILES",
-        &[
-            Say("FILE is told by its ending:"),
-            Table(&[
-                (".mi", "a source in MI's notation"),
-                (".hex", "commented hexadecimal, as tools/bytes reads it"),
-                ("others", "the bytes themselves, from real address 0 on"),
-            ]),
-            Say("Where the file does not say otherwise, the system block is at 0, the control block at 100h, and the desk starts at 200h in kernel mode, as under `trace`. docs/MACHINE.md is the machine's manual."),
-        ],
-    ),
-    (
-        "NUMBERS",
-        &[Say("A number is decimal, or hexadecimal with h at its end: 410h, also 0x410 and H'410'. In what `desk` writes, a number that ends in h is hexadecimal, a row of eight digits too, any other decimal.")],
-    ),
-    ("EXIT STATUS", &[Table(STATUSES)]),
-    (
-        "EXAMPLES",
-        &[
-            Show("desk run examples/minimum.mi\ndesk run examples/user_mode.mi --trace\ndesk run examples/user_mode.mi --until entry:11 --dump 800h,4\ndesk debug examples/isolation.mi\ndesk map examples/isolation.mi\ndesk picture examples/isolation.mi -o isolation.svg"),
-        ],
-    ),
-];
-
-/// What the exit status tells.
-pub const STATUSES: &[(&str, &str)] = &[
-    ("0", "the program ended with HALT; of other verbs than run: it is done"),
-    ("8, 12 to 16", "run: the program ended with the stop of that number"),
-    ("32 + number", "the library refused: 33 to 39 for refusals 1 to 7"),
-    ("64", "the arguments do not fit"),
-    ("65", "a file's content is not usable; messages say where"),
-    ("66", "a file cannot be read"),
-    ("74", "the output cannot be written"),
-    ("124", "run: the step limit is reached"),
-    ("125", "run: what --until names is reached"),
 ];
