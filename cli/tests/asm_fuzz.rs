@@ -87,7 +87,7 @@ fn answers(text: &str) {
         }
         Err(complaints) => {
             assert!(!complaints.is_empty());
-            let lines = text.split('\n').count();
+            let lines = text.split(['\n', '\r']).count();
             for complaint in complaints {
                 assert!(complaint.line <= lines, "{complaint}\n{text}");
                 assert!(!complaint.sentence.chars().any(char::is_control), "{complaint:?}");

@@ -139,6 +139,15 @@ fn maps() {
 }
 
 #[test]
+fn frames_and_maps_by_a_distance_from_a_name() {
+    let source = "SEG 200h\nm: MAP\nPAGE 0: FRAME OF p+512, READ\nPAGE 1: FRAME OF p-512, READ\n\
+        CONTROL BLOCK MAP m+4, LENGTH 1\nSEG 600h AT 0\np: SYSTEM CALL I 1";
+    let image = assembled("source", source);
+    assert_eq!([word(&image, 0x200), word(&image, 0x204)], [0x8000_0004, 0x8000_0002]);
+    assert_eq!([word(&image, 0x208 + 72), word(&image, 0x208 + 76)], [0x204, 1]);
+}
+
+#[test]
 fn start_and_memory() {
     let image = assembled("source", "SEG 300h\ngo: HALT\nSTART go\nMEMORY 1000h");
     assert_eq!((image.start, image.memory.len()), (0x300, 0x1000));

@@ -49,7 +49,7 @@ fn entry(context: &Context, entry: &Entry) -> Result<(u32, u32, u32), Fault> {
     if let Some(level) = &entry.level {
         status |= level_bits(context, level)?;
     }
-    Ok((cause, context.word(&entry.to)?, status))
+    Ok((cause, context.place(&entry.to, false)?, status))
 }
 
 fn level_bits(context: &Context, level: &Expression) -> Result<u32, Fault> {
@@ -62,26 +62,35 @@ pub fn control_block(context: &Context, given: &[Field]) -> Result<Vec<u8>, Faul
     let has_length = given.iter().any(|field| field.name == FieldName::Length);
     for field in given {
         match field.name {
+            FieldName::Register(15) => put(&mut bytes, 60, context.place(&field.value, true)?),
             FieldName::Register(number) => put(&mut bytes, 4 * u32::from(number), context.word(&field.value)?),
             FieldName::Status => status |= context.word(&field.value)?,
             FieldName::Level => status |= level_bits(context, &field.value)?,
             FieldName::Argument => put(&mut bytes, fields::ARGUMENT, context.word(&field.value)?),
             FieldName::Length => put(&mut bytes, fields::LENGTH, context.word(&field.value)?),
             FieldName::Map => {
-                let value = context.symbols.value(&field.value, context.position.segment)?;
-                put(&mut bytes, fields::MAP, value.place.map_or(value.fitting(32)?, |place| place.real));
-                match value.place.and_then(|place| place.map_length) {
-                    Some(length) if !has_length => put(&mut bytes, fields::LENGTH, length),
-                    None if !has_length => {
-                        return fault(field.value.column, "this is not the name of a MAP: expected one, or LENGTH too");
-                    }
-                    _ => {}
+                let (base, length) = map_field(context, &field.value, has_length)?;
+                put(&mut bytes, fields::MAP, base);
+                if let Some(length) = length {
+                    put(&mut bytes, fields::LENGTH, length);
                 }
             }
         }
     }
     put(&mut bytes, fields::STATUS, status);
     Ok(bytes)
+}
+
+/// The base of a map and, where it is not given apart, its length.
+fn map_field(context: &Context, map: &Expression, has_length: bool) -> Result<(u32, Option<u32>), Fault> {
+    let value = context.symbols.value(map, context.position.segment)?;
+    let base = value.real().map_or_else(|| value.fitting(32), Ok)?;
+    let at_its_start = value.place.filter(|place| place.real == base);
+    match at_its_start.and_then(|place| place.map_length) {
+        _ if has_length => Ok((base, None)),
+        Some(length) => Ok((base, Some(length))),
+        None => fault(value.column, "this is not the name of a MAP: expected one, or LENGTH too"),
+    }
 }
 
 pub fn map(context: &Context, pages: &[Page], errors: &mut Errors) -> Vec<u8> {
@@ -134,8 +143,8 @@ fn frame(context: &Context, frame: &Frame) -> Result<u32, Fault> {
         Frame::Number(number) => context.between(number, "a frame", 0, LAST_FRAME),
         Frame::Of(place) => {
             let value = context.symbols.value(place, context.position.segment)?;
-            match value.place {
-                Some(place) => Ok(place.real / 512),
+            match value.real() {
+                Some(real) => Ok(real / 512),
                 None => fault(value.column, "expected a name behind FRAME OF"),
             }
         }

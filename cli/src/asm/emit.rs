@@ -52,6 +52,15 @@ impl Context<'_> {
         self.symbols.word(expression, self.position.segment)
     }
 
+    /// A sum as an address; a name in it must be of that kind.
+    pub fn place(&self, expression: &Expression, is_virtual: bool) -> Result<u32, Fault> {
+        let value = self.symbols.value(expression, self.position.segment)?;
+        match value.place {
+            Some(place) if place.is_virtual != is_virtual => fault(value.column, mixed(place.is_virtual)),
+            _ => value.fitting(32),
+        }
+    }
+
     pub fn between(&self, expression: &Expression, what: &str, from: u32, to: u32) -> Result<u32, Fault> {
         self.symbols.between(expression, self.position.segment, what, from, to)
     }
@@ -69,13 +78,10 @@ impl Context<'_> {
             None => 0,
             Some(z) => {
                 let value = self.symbols.value(z, self.position.segment)?;
-                let is_value = operand.form == forms::VALUE;
-                if let Some(place) =
-                    value.place.filter(|place| !is_value && place.is_virtual != self.position.is_virtual)
-                {
-                    return fault(value.column, mixed(place.is_virtual));
+                match operand.form {
+                    forms::VALUE => value.fitting(8 * size.bytes())?,
+                    _ => self.place(z, self.position.is_virtual)?,
                 }
-                value.fitting(if is_value { 8 * size.bytes() } else { 32 })?
             }
         };
         Ok(Fields { form: operand.form, x: operand.x, y: operand.y, z })

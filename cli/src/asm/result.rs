@@ -22,16 +22,18 @@ pub fn check_overlaps(statements: &[Statement], layout: &Layout, errors: &mut Er
     let mut pieces: Vec<(&Statement, &Position)> =
         statements.iter().zip(&layout.positions).filter(|(_, position)| position.length > 0).collect();
     pieces.sort_by_key(|(statement, position)| (position.real, statement.line));
-    let mut reached = (0, 0);
+    let mut reached: (u32, Option<&Statement>) = (0, None);
     for (statement, position) in pieces {
-        let (end, line) = reached;
-        if position.real < end {
-            let (later, earlier) = (statement.line.max(line), statement.line.min(line));
-            let sentence =
-                format!("these bytes overlap those of line {earlier} at address {}", hexadecimal(position.real));
-            errors.add(later, Fault { column: statement.column, sentence });
+        let (end, before) = reached;
+        if let Some(before) = before.filter(|_| position.real < end) {
+            let (later, earlier) = if statement.line > before.line { (statement, before) } else { (before, statement) };
+            let (line, at) = (earlier.line, hexadecimal(position.real));
+            let sentence = format!("these bytes overlap those of line {line} at address {at}");
+            errors.add(later.line, Fault { column: later.column, sentence });
         }
-        reached = reached.max((position.real + position.length, statement.line));
+        if position.real + position.length > end {
+            reached = (position.real + position.length, Some(statement));
+        }
     }
 }
 

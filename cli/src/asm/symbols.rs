@@ -6,6 +6,9 @@ use super::syntax::{Expression, Item};
 use crate::{lists, notation, options};
 use std::collections::{BTreeMap, BTreeSet};
 
+/// Labels that an unknown name is compared with.
+const MOST_COMPARED: usize = 500;
+
 /// Where a name stands.
 #[derive(Clone, Copy, PartialEq, Eq, Debug)]
 pub struct Place {
@@ -146,8 +149,10 @@ impl Symbols {
         }
     }
 
+    /// What is said of an unknown name. What it may mean is looked for only in sources of a common size.
     fn no_name(&self, name: &str) -> String {
-        let labels = self.labels.iter().map(String::as_str);
+        let few = self.labels.len() <= MOST_COMPARED;
+        let labels = self.labels.iter().map(String::as_str).filter(|_| few);
         let meant = options::nearest(name, labels).filter(|_| name.len() > 2);
         let hint = meant.map_or(String::new(), |meant| format!("; did you mean {meant}?"));
         format!("there is no name '{}'{hint}", shown(name))
@@ -176,6 +181,12 @@ impl Symbols {
 }
 
 impl Value {
+    /// The real address, where it is an address.
+    pub fn real(&self) -> Option<u32> {
+        let place = self.place?;
+        u32::try_from(i64::from(place.real) + self.number - i64::from(place.address)).ok()
+    }
+
     /// The number in so many bits, signed or unsigned.
     pub fn fitting(&self, bits: u32) -> Result<u32, Fault> {
         let (lowest, highest) = (-(1_i64 << (bits - 1)), (1_i64 << bits) - 1);
