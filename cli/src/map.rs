@@ -183,16 +183,24 @@ fn remark(atlas: &Atlas, things: &[Thing], program: &Mapped, page: &Page) -> Str
     }
 }
 
+/// Other pages and other programs that lead to a frame.
 fn sharers(atlas: &Atlas, program: &Mapped, page: u32, frame: u32) -> Vec<String> {
-    let mut remarks = Vec::new();
+    let (mut own, mut others) = (Vec::new(), Vec::new());
     for reach in atlas.reaches(frame) {
         let Some(other) = atlas.programs.get(reach.program) else { continue };
-        let write = if reach.write { ", which may write it" } else { "" };
         if other.control_block != program.control_block {
-            remarks.push(format!("shared: page {} of {}{write}", reach.page, other.name));
+            let write = if reach.write { ", may write" } else { "" };
+            others.push(format!("{} (page {}{write})", other.name, reach.page));
         } else if reach.page != page {
-            remarks.push(format!("also its page {}{write}", reach.page));
+            own.push(format!("{}{}", reach.page, if reach.write { " (may write)" } else { "" }));
         }
+    }
+    let mut remarks = Vec::new();
+    if !own.is_empty() {
+        remarks.push(format!("also its page {}", lists::and(&own)));
+    }
+    if !others.is_empty() {
+        remarks.push(format!("shared with {}", lists::and(&others)));
     }
     remarks
 }

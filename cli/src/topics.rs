@@ -100,6 +100,7 @@ const STATUSES: &[(&str, &str)] = &[
     ("64", "the arguments do not fit"),
     ("65", "a file's content is not usable; messages say where"),
     ("66", "a file cannot be read"),
+    ("70", "the script `desk`: the library or the command cannot be built"),
     ("74", "the output cannot be written"),
     ("124", "run: the step limit is reached"),
     ("125", "run: what --until names is reached"),

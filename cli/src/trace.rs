@@ -87,7 +87,7 @@ fn memory_change(known: &Known, step: &Step, change: &Change) -> String {
     let name = name.unwrap_or_else(|| "memory ".to_string());
     match (value(&change.old), value(&change.new)) {
         (Some(old), Some(new)) => format!("{name}({place}) {old} -> {new}"),
-        _ => format!("{name}({place}) {} bytes", change.new.len()),
+        _ => format!("{name}({place}) {} words", change.new.len().div_ceil(4)),
     }
 }
 

@@ -14,6 +14,12 @@ fn traces_are_as_stored() {
 }
 
 #[test]
+fn json_is_as_stored() {
+    let (out, _) = said(&["run", &example("user_mode"), "--trace", "--json", "--dump", "800h,4"]);
+    golden("golden/run/user_mode.json", &out);
+}
+
+#[test]
 fn without_trace_the_end_is_the_same() {
     for name in EXAMPLES {
         let (traced, _) = said(&["run", &example(name), "--trace"]);

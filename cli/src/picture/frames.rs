@@ -1,15 +1,16 @@
 //! A row of the picture: the frame with what is in it, the cells of the programs, what stands out.
 
-use super::draw::{
-    colour, column_x, Drawing, COLUMN, FAINT, INK, KERNEL, LINE, MARGIN, MEMORY, MEMORY_X, MOST_PROGRAMS,
-};
+use super::draw::{colour, column_x, Drawing, COLUMN, FAINT, INK, KERNEL, LINE, MARGIN, MEMORY, MEMORY_X};
 use super::draw::{PAPER, REMARKS, SHARED, SHARED_LINE};
 use super::rows::Row;
 use super::svg::{cut, Box, Style};
-use crate::atlas::Reach;
+use crate::atlas::{Mapped, Reach};
 use crate::blocks::{Kind, Thing};
 use crate::hints;
 use crate::notation::hexadecimal;
+
+/// Bold letters are as wide as plain ones of this size.
+const BOLD: u32 = 13;
 
 impl Drawing<'_> {
     /// The lines of text in a row's frame.
@@ -37,7 +38,7 @@ impl Drawing<'_> {
             Kind::Control => format!("control block{name}, {at}"),
             Kind::Map => format!("map{name}, {at}: {}", hints::pages(thing.length / 4)),
         };
-        cut(&words, MEMORY - 12, 11)
+        cut(&words, MEMORY - 12, BOLD)
     }
 
     pub fn height(&self, row: &Row) -> i64 {
@@ -148,8 +149,8 @@ impl Drawing<'_> {
         let small = Style::plain(11, INK);
         if row.shared {
             lines.push(("shared".to_string(), Style::plain(13, INK).bold()));
-            let sharers = (0..self.atlas.programs.len()).filter_map(|program| self.sharer(row, program));
-            lines.extend(sharers.take(MOST_PROGRAMS).map(|words| (words, small)));
+            lines.extend(self.sharers(row, true).map(|words| (words, small)));
+            lines.extend(self.sharers(row, false).map(|words| (words, small)));
         }
         if row.reaches.iter().any(|reach| reach.write) && !row.things.is_empty() {
             let words = ["careful: a program may", "write a block or a map"];
@@ -165,11 +166,14 @@ impl Drawing<'_> {
         }
     }
 
-    fn sharer(&self, row: &Row, program: usize) -> Option<String> {
-        let name = &self.atlas.programs.get(program)?.name;
-        let mut reaches = row.reaches.iter().filter(|reach| reach.program == program).peekable();
-        reaches.peek()?;
-        let verb = if reaches.any(|reach| reach.write) { "may write" } else { "may read" };
-        Some(format!("{name} {verb}"))
+    /// The programs that may write a row's frame, or those that may only read it.
+    fn sharers(&self, row: &Row, write: bool) -> Option<String> {
+        let may = |program: usize| row.reaches.iter().any(|reach| reach.program == program && reach.write);
+        let reaches = |program: usize| row.reaches.iter().any(|reach| reach.program == program);
+        let wanted = |(place, _): &(usize, &Mapped)| reaches(*place) && may(*place) == write;
+        let programs = self.atlas.programs.iter().enumerate().filter(wanted);
+        let names: Vec<&str> = programs.map(|(_, program)| program.name.as_str()).collect();
+        let verb = if write { "may write" } else { "may only read" };
+        (!names.is_empty()).then(|| format!("{verb}: {}", names.join(", ")))
     }
 }
