@@ -173,7 +173,7 @@ impl Drawing<'_> {
         let wanted = |(place, _): &(usize, &Mapped)| reaches(*place) && may(*place) == write;
         let programs = self.atlas.programs.iter().enumerate().filter(wanted);
         let names: Vec<&str> = programs.map(|(_, program)| program.name.as_str()).collect();
-        let verb = if write { "may write" } else { "may only read" };
+        let verb = if write { "may write" } else { "may read" };
         (!names.is_empty()).then(|| format!("{verb}: {}", names.join(", ")))
     }
 }
