@@ -5,6 +5,8 @@ use crate::effect::{self, Piece};
 use crate::image::{Image, Program, SourceLine};
 use crate::names::Names;
 use crate::notation;
+use crate::options;
+use crate::view;
 use midesk::{Desk, Event, Refusal};
 
 /// What the file tells of addresses.
@@ -151,6 +153,19 @@ impl Known {
             (false, Some(program)) => format!("program {}", program.name),
             (false, None) => format!("the program of block {}", self.real_place(desk.control_block())),
         }
+    }
+
+    /// The real address of a number, of a name of the kernel's, or of a program's by way of its map.
+    pub fn real_address(&self, memory: &[u8], text: &str) -> Option<u32> {
+        let of_program = |program: &Program| {
+            let address = program.names.address_of(text).or_else(|| {
+                let (name, _) = text.split_once('+')?;
+                program.names.address_of(name)?;
+                options::address(text, &program.names)
+            })?;
+            view::real(memory, program.map_base, program.map_length, address).ok().map(|(real, _)| real)
+        };
+        options::address(text, &self.real).or_else(|| self.programs.iter().find_map(of_program))
     }
 
     /// The line of the source that gave the byte at a real address.

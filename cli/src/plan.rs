@@ -66,7 +66,7 @@ impl Plan {
             until: given.value("--until").map(|text| until(text, &machine.known)).transpose()?,
             trace: given.has("--trace"),
             json: given.has("--json"),
-            dumps: given.values("--dump").map(|text| dump(text, &machine.known)).collect::<Result<_, _>>()?,
+            dumps: given.values("--dump").map(|text| dump(text, machine)).collect::<Result<_, _>>()?,
         })
     }
 }
@@ -115,12 +115,12 @@ pub fn place(text: &str, known: &Known) -> Result<Place, String> {
     })
 }
 
-fn dump(text: &str, known: &Known) -> Result<(u32, u32), String> {
+fn dump(text: &str, machine: &Machine) -> Result<(u32, u32), String> {
     let (from, count) = match text.split_once(',') {
         Some((from, count)) => (from, options::count(count).and_then(|count| u32::try_from(count).ok())),
         None => (text, Some(DUMP)),
     };
-    let address = options::address(from, &known.real);
+    let address = machine.known.real_address(&machine.memory, from);
     address.zip(count).ok_or_else(|| {
         format!("--dump needs ADDRESS[,COUNT], such as 410h or block,80, and '{}' is none", options::shown(text))
     })

@@ -103,3 +103,18 @@ fn help_without_arguments() {
     let (sentence, status) = refused(&["help", "fly"]);
     assert!(status == 64 && sentence.contains("there is no verb 'fly'"), "{sentence}");
 }
+
+#[test]
+fn dumps_of_names() {
+    let example = example("isolation");
+    let (out, _) =
+        said(&["run", &example, "--dump", "private,4", "--dump", "codeB,4", "--dump", "count", "--dump", "FFCh,8"]);
+    for words in [
+        "memory from private (C00h)\n0C00h  0B0B0B0B",
+        "memory from A00h\n0A00h  6601000B",
+        "memory from count (420h)\n0420h  00000006",
+        "0FFCh  00000000                             ....\nthe memory ends at 1000h\n",
+    ] {
+        assert!(out.contains(words), "'{words}' is not in\n{out}");
+    }
+}

@@ -67,33 +67,49 @@ pub fn info(session: &mut Session, arguments: &[&str], out: &mut dyn Write) -> D
     }
 }
 
-/// An address as the user writes it, with the names of the present mode or, in kernel mode, the real ones.
+/// An address as the user writes it, with the names of the present mode.
 fn address(text: &str, names: &Names) -> Result<u32, String> {
-    let none = || format!("'{}' is neither an address such as 410h nor a name here", options::shown(text));
-    options::address(text, names).ok_or_else(none)
+    options::address(text, names).ok_or_else(|| no_address(text))
+}
+
+fn no_address(text: &str) -> String {
+    format!("'{}' is neither an address such as 410h nor a name here", options::shown(text))
+}
+
+/// What `memory` is to show: the first address, and whether it is a real one.
+fn shown_from(session: &Session, text: &str, real: bool) -> Result<(u32, bool), String> {
+    let machine = &session.machine;
+    let names = machine.known.names(&machine.desk);
+    if !real && !machine.desk.is_kernel() {
+        if let Some(address) = options::address(text, names) {
+            return Ok((address, false));
+        }
+    }
+    let address = machine.known.real_address(&machine.memory, text);
+    address.map(|address| (address, true)).ok_or_else(|| no_address(text))
 }
 
 pub fn memory(session: &mut Session, arguments: &[&str], out: &mut dyn Write) -> Done {
     let (real, arguments) = match arguments.split_first() {
         Some((&"real", rest)) => (true, rest),
-        _ => (session.machine.desk.is_kernel(), arguments),
+        _ => (false, arguments),
     };
     let Some(text) = arguments.first() else {
         return Err("memory from where? An address, such as 410h, or a name".to_string().into());
     };
     let n = count(arguments.get(1))?.unwrap_or(u64::from(DUMP)).min(MOST) as u32;
     nothing_more(arguments.get(2..).unwrap_or_default())?;
+    let (from, real) = shown_from(session, text, real)?;
+    let from = session.onward.unwrap_or(from);
     let machine = &session.machine;
-    let names = if real { &machine.known.real } else { machine.known.names(&machine.desk) };
-    let from = match session.onward {
-        Some(onward) => onward,
-        None => address(text, names)?,
-    };
     let byte = |i: u32| match real {
         true => view::byte(&machine.memory, from.wrapping_add(i)),
         false => effect::byte(&machine.desk, &machine.memory, from.wrapping_add(i)),
     };
     let bytes: Vec<Option<u8>> = (0..n).map(byte).collect();
+    if real && !machine.desk.is_kernel() {
+        writeln!(out, "real addresses:")?;
+    }
     for row in dump::rows(from, &bytes) {
         writeln!(out, "{row}")?;
     }
