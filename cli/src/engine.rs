@@ -47,14 +47,14 @@ impl Runner<'_> {
     /// Single steps up to a step number; none if the run is not over then.
     fn singly(&mut self, up_to: u64, show: &mut Show) -> io::Result<Option<End>> {
         loop {
-            if let Err(refusal) = self.request() {
-                return Ok(Some(End::Refused(refusal)));
-            }
             if self.machine.steps >= self.plan.limit {
                 return Ok(Some(self.at_limit()));
             }
             if self.machine.steps >= up_to {
                 return Ok(None);
+            }
+            if let Err(refusal) = self.request() {
+                return Ok(Some(End::Refused(refusal)));
             }
             let event = match self.step(show)? {
                 Ok(event) => event,
@@ -124,18 +124,15 @@ impl Runner<'_> {
             false => Vec::new(),
         };
         self.entry = None;
-        loop {
+        while self.machine.steps < self.plan.limit {
             if let Err(refusal) = self.request() {
                 return End::Refused(refusal);
-            }
-            let wanted = self.next_pause() - self.machine.steps;
-            if wanted == 0 {
-                return End::Limit;
             }
             if !kept.is_empty() {
                 kept.copy_from_slice(&self.machine.memory);
             }
             let before = self.machine.desk.clone();
+            let wanted = self.next_piece();
             let made = match self.machine.desk.run(&mut self.machine.memory, wanted) {
                 Ok(made) => made,
                 Err(refusal) => return End::Refused(refusal),
@@ -149,13 +146,13 @@ impl Runner<'_> {
                 return End::Stopped(number);
             }
         }
+        End::Limit
     }
 
-    /// The step before which a piece ends: the limit, a request, or the piece's length.
-    fn next_pause(&self) -> u64 {
+    /// The steps of the next piece: at most up to the limit, and to the step before the next request.
+    fn next_piece(&self) -> u64 {
         let request = self.plan.requests.get(self.requests).map_or(u64::MAX, |(step, _)| step - 1);
-        let piece = self.machine.steps.saturating_add(PIECE);
-        piece.min(request).min(self.plan.limit)
+        PIECE.min(request.min(self.plan.limit) - self.machine.steps)
     }
 
     /// Makes the last steps of a piece once more, singly, to see their kernel entries. What a step does depends on desk and

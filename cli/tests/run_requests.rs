@@ -84,6 +84,20 @@ fn requests_in_a_long_run() {
     assert_eq!(r0(&run(&["5@2000000", "6@2500001"])), Some("1499998".to_string()));
 }
 
+/// A request for a step that the limit keeps from being made is not made either, in single steps and in pieces.
+#[test]
+fn a_request_behind_the_limit() {
+    let file = written("ticks_limit.mi", TICKS.as_bytes());
+    for (steps, request) in [("7", "5@8"), ("20000", "5@20001"), ("10000", "5@10001")] {
+        let (out, status) = said(&["run", &file, "--steps", steps, "--request", request]);
+        assert!(status == 124 && !out.contains("pending"), "{out}");
+        assert!(out.contains(&format!("the request {request} was not made")), "{out}");
+    }
+    let (out, _) = said(&["run", &file, "--steps", "20000", "--request", "5@20000"]);
+    assert!(out.contains("still running after 20,000 steps") && !out.contains("was not made"), "{out}");
+    assert!(out.contains("next: the kernel at back"), "{out}");
+}
+
 #[test]
 fn a_request_that_comes_too_late_is_told() {
     let (out, _) = said(&["run", &example("sum"), "--request", "5@20"]);
