@@ -194,3 +194,15 @@ fn edge_lengths_come_back() {
         comes_back(&of_bytes((0..length).map(|i| b' ' + (i % 95) as u8).collect()), "text");
     }
 }
+
+/// A map that a kernel also takes for a control block: it is written as a map, and has no fields with names.
+#[test]
+fn a_map_that_is_a_control_block_too_comes_back() {
+    let source =
+        "SEG 0\nSYSTEM BLOCK\nON SYSTEM CALL TO again\nSEG 100h\nb: CONTROL BLOCK START 0, MAP m\nSEG 200h\nRESUME b\n\
+        again: MOVE W 418h,R0\nRESUME 400h\nSEG 400h\nm: MAP\nPAGE 0: FRAME 3, READ\nPAGE 7: ABSENT\n\
+        SEG 600h AT 0\nSYSTEM CALL I 1\nMEMORY 800h";
+    let image = of_bytes(assembled("source", source).memory);
+    assert!(listing(&image, "both").contains("program B: control block at 400h"));
+    comes_back(&image, "both");
+}

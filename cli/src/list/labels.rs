@@ -28,17 +28,23 @@ pub struct Sources<'a> {
     pub programs: &'a [Program],
     pub ground: &'a Ground,
     pub code: &'a Code,
-    /// Control blocks and maps that the listing writes as such, with the names that they get where they have none.
-    pub blocks: &'a BTreeMap<u32, String>,
+    /// Control blocks and maps that the listing writes as such.
+    pub blocks: &'a BTreeMap<u32, BlockName>,
+}
+
+/// The name of a block where it has none, and whether it is a control block, whose fields have names too.
+pub struct BlockName {
+    pub name: String,
+    pub is_control: bool,
 }
 
 impl Labels {
     pub fn new(sources: &Sources) -> Labels {
         let mut labels = Labels::default();
         labels.of_source(sources);
-        for (real, name) in sources.blocks {
+        for (real, block) in sources.blocks {
             if labels.of(*real).is_empty() {
-                labels.add(*real, name);
+                labels.add(*real, &block.name);
             }
         }
         labels.of_references(sources);
@@ -119,9 +125,7 @@ impl Labels {
                 match sources.ground.shift(*real) {
                     None => {
                         self.kernel.add(name, *real);
-                        if sources.blocks.contains_key(real)
-                            && sources.programs.iter().any(|p| p.control_block == *real)
-                        {
+                        if sources.blocks.get(real).is_some_and(|block| block.is_control) {
                             for (field, offset) in asm::fields::FIELDS {
                                 self.kernel.add(&format!("{name}.{field}"), real + offset);
                             }

@@ -19,7 +19,7 @@ use crate::trial::{self, Trial};
 use crate::{asm, view};
 use follow::{Code, Space};
 use ground::Ground;
-use labels::{Labels, Sources};
+use labels::{BlockName, Labels, Sources};
 use std::collections::BTreeMap;
 
 /// What stands at a place as a directive.
@@ -121,15 +121,19 @@ fn take_blocks(image: &Image, programs: &[Program], ground: &mut Ground, blocks:
 }
 
 /// What control blocks and maps are called where the image has no name for them.
-fn block_names(blocks: &BTreeMap<u32, Block>, programs: &[Program]) -> BTreeMap<u32, String> {
-    let plain = |place: &usize| -> String {
-        let name = programs.get(*place).map_or("", |program| program.name.as_str());
+fn block_names(blocks: &BTreeMap<u32, Block>, programs: &[Program]) -> BTreeMap<u32, BlockName> {
+    let plain = |place: usize| -> String {
+        let name = programs.get(place).map_or("", |program| program.name.as_str());
         name.chars().filter(|c| c.is_ascii_alphanumeric()).collect()
     };
-    let name = |(real, block): (&u32, &Block)| match block {
-        Block::System => None,
-        Block::Control(place) => Some((*real, format!("block{}", plain(place)))),
-        Block::Map(place) => Some((*real, format!("map{}", plain(place)))),
-    };
-    blocks.iter().filter_map(name).collect()
+    let mut names = BTreeMap::new();
+    for (real, block) in blocks {
+        let (name, is_control) = match *block {
+            Block::System => continue,
+            Block::Control(place) => (format!("block{}", plain(place)), true),
+            Block::Map(place) => (format!("map{}", plain(place)), false),
+        };
+        names.insert(*real, BlockName { name, is_control });
+    }
+    names
 }
