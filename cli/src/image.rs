@@ -19,6 +19,8 @@ pub struct Image {
     pub names: Names,
     pub programs: Vec<Program>,
     pub lines: Vec<SourceLine>,
+    /// The lines inside of blocks and maps, ON and PAGE, likewise.
+    pub entries: Vec<SourceLine>,
 }
 
 /// A user program: a control block with its map.
@@ -131,6 +133,6 @@ pub fn complaint(file: &str, line: usize, column: usize, sentence: String) -> Co
 pub fn of_bytes(mut memory: Vec<u8>) -> Image {
     let length = memory.len().div_ceil(512).max(1) * 512;
     memory.resize(length, 0);
-    let (names, programs, lines) = (Names::none(), Vec::new(), Vec::new());
-    Image { memory, system: 0, control: 0x100, start: 0x200, names, programs, lines }
+    let (names, programs, lines, entries) = (Names::none(), Vec::new(), Vec::new(), Vec::new());
+    Image { memory, system: 0, control: 0x100, start: 0x200, names, programs, lines, entries }
 }

@@ -4,7 +4,7 @@ use super::errors::{Errors, Fault};
 use super::fields;
 use super::layout::{Layout, Position};
 use super::sizes;
-use super::syntax::{Datum, Kind, Statement};
+use super::syntax::{CauseKind, Datum, Entry, Kind, Statement};
 use crate::image::{self, Image, Program, SourceLine};
 use crate::names::Names;
 use crate::notation::hexadecimal;
@@ -67,7 +67,7 @@ pub fn assembled(
     image.system = first(|kind| matches!(kind, Kind::SystemBlock(_))).unwrap_or(image.system);
     image.control = first(|kind| matches!(kind, Kind::ControlBlock(_))).unwrap_or(image.control);
     image.names = names(layout);
-    image.lines = lines(source, statements, layout);
+    (image.lines, image.entries) = lines(source, statements, layout);
     image.programs = programs(statements, layout, &image.memory);
     Assembled { bytes, image }
 }
@@ -96,23 +96,46 @@ fn names(layout: &Layout) -> Names {
     names
 }
 
-fn lines(source: &str, statements: &[Statement], layout: &Layout) -> Vec<SourceLine> {
+/// The lines that gave bytes, and those inside of blocks and maps, by address.
+fn lines(source: &str, statements: &[Statement], layout: &Layout) -> (Vec<SourceLine>, Vec<SourceLine>) {
     let texts: Vec<&str> = super::parser::lines(source).collect();
-    let with_bytes = statements.iter().zip(&layout.positions).filter(|(_, position)| position.length > 0);
-    let line = |(statement, position): (&Statement, &Position)| {
-        let text = texts.get(statement.line.wrapping_sub(1)).map_or("", |text| text.trim());
-        SourceLine {
+    let text = |line: usize| texts.get(line.wrapping_sub(1)).map_or("", |text| text.trim()).to_string();
+    let (mut lines, mut entries) = (Vec::new(), Vec::new());
+    for (statement, position) in statements.iter().zip(&layout.positions).filter(|(_, position)| position.length > 0) {
+        lines.push(SourceLine {
             address: position.real,
             line: statement.line,
-            text: text.to_string(),
+            text: text(statement.line),
             is_command: matches!(statement.kind, Kind::Command { .. }),
             at: position.is_virtual.then_some(position.address),
             size: data_size(&statement.kind, layout, position.segment),
+        });
+        for (offset, line) in inner_lines(&statement.kind, layout, position.segment) {
+            let address = position.real.saturating_add(offset);
+            entries.push(SourceLine { address, line, text: text(line), is_command: false, at: None, size: None });
         }
-    };
-    let mut lines: Vec<SourceLine> = with_bytes.map(line).collect();
+    }
     lines.sort_by_key(|line| (line.address, line.line));
-    lines
+    entries.sort_by_key(|line| (line.address, line.line));
+    (lines, entries)
+}
+
+/// The lines ON and PAGE of a block, each with its distance from the block's start.
+fn inner_lines(kind: &Kind, layout: &Layout, segment: usize) -> Vec<(u32, usize)> {
+    let number = |expression| layout.symbols.word(expression, segment).unwrap_or(0);
+    match kind {
+        Kind::SystemBlock(entries) => {
+            let first = |entry: &Entry| if entry.kind == CauseKind::Interrupt { 16 } else { 0 };
+            entries
+                .iter()
+                .map(|entry| (number(&entry.cause).saturating_add(first(entry)).saturating_mul(8), entry.line))
+                .collect()
+        }
+        Kind::Map { pages, .. } => {
+            pages.iter().map(|page| (number(&page.first).saturating_mul(4), page.line)).collect()
+        }
+        _ => Vec::new(),
+    }
 }
 
 fn data_size(kind: &Kind, layout: &Layout, segment: usize) -> Option<Size> {

@@ -7,6 +7,9 @@ use crate::table::Size;
 /// A zero run of this length that nobody names is left out; SEG leads over it.
 pub const LONG: usize = 16;
 
+/// Characters in a row.
+const TEXT: usize = 24;
+
 /// The zeros at the start of a piece.
 pub fn zeros(bytes: &[u8]) -> usize {
     bytes.iter().take_while(|byte| **byte == 0).count()
@@ -33,7 +36,7 @@ fn element(real: u32, size: Option<Size>) -> Size {
 /// The rows of a piece; `size` is that with which a command uses it.
 pub fn rows(real: u32, bytes: &[u8], size: Option<Size>) -> Vec<Line> {
     if size.is_none_or(|size| size == Size::B) && is_text(bytes) {
-        return bytes.chunks(32).zip(0..).map(|(row, i)| text(real + 32 * i, row)).collect();
+        return bytes.chunks(TEXT).zip(0..).map(|(row, i)| text(real + TEXT as u32 * i, row)).collect();
     }
     let size = element(real, size);
     let length = size.bytes() as usize;

@@ -1,7 +1,5 @@
 //! The columns of a listing. What stands before the bar is not read by the assembler, so the listing is a source.
 
-use std::fmt::Write;
-
 #[derive(Clone, PartialEq, Eq, Debug, Default)]
 pub struct Line {
     pub real: Option<u32>,
@@ -29,22 +27,30 @@ pub fn written(lines: &[Line]) -> String {
     let label = if label == 0 { 0 } else { label + 2 };
     let text = lines.iter().filter(|line| !line.remark.is_empty()).map(|line| line.text.len());
     let text = text.filter(|width| *width <= WIDEST_TEXT).max().unwrap_or(0);
-    let mut out = String::new();
-    for line in lines {
-        let Some(address) = line.real else {
-            let source = source(line, label, text);
-            out.push_str(source.trim_end());
-            out.push('\n');
-            continue;
-        };
-        let _ = write!(out, "{address:0real$X} ");
-        if shown > 0 {
-            let page = line.shown.map_or(String::new(), |address| format!("{address:0shown$X}"));
-            let _ = write!(out, " {page:shown$} ");
+    let widths = Widths { real, shown, bytes, label, text };
+    lines.iter().map(|line| format!("{}\n", widths.line(line).trim_end())).collect()
+}
+
+struct Widths {
+    real: usize,
+    shown: usize,
+    bytes: usize,
+    label: usize,
+    text: usize,
+}
+
+impl Widths {
+    fn line(&self, line: &Line) -> String {
+        let Widths { real, shown, bytes, label, text } = *self;
+        let source = source(line, label, text);
+        if line.text.is_empty() && line.label.is_empty() {
+            return source;
         }
-        let _ = writeln!(out, " {:bytes$} | {}", line.bytes, source(line, label, text).trim_end());
+        let address = line.real.map_or(String::new(), |address| format!("{address:0real$X}"));
+        let page = line.shown.map_or(String::new(), |address| format!("{address:0shown$X}"));
+        let page = if shown > 0 { format!("  {page:shown$}") } else { String::new() };
+        format!("{address:real$}{page}  {:bytes$} | {source}", line.bytes)
     }
-    out
 }
 
 fn source(line: &Line, label: usize, text: usize) -> String {

@@ -23,7 +23,7 @@ pub fn of_source(image: &Image) -> BTreeMap<u32, String> {
         }
         None
     };
-    image.lines.iter().filter_map(|line| Some((line.address, remark(&line.text)?))).collect()
+    image.lines.iter().chain(&image.entries).filter_map(|line| Some((line.address, remark(&line.text)?))).collect()
 }
 
 /// Why a place that the code leads to is no command.

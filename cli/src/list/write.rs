@@ -123,9 +123,11 @@ impl Writer<'_> {
                 line.label = last.clone();
             }
         }
+        let several = lines.len() > 1;
         for mut line in lines {
+            let heads_a_block = several && line.bytes.is_empty();
             line.shown = line.real.and_then(|real| shift.map(|shift| real.wrapping_add(shift)));
-            if line.remark.is_empty() {
+            if line.remark.is_empty() && !heads_a_block {
                 line.remark = line.real.and_then(|real| self.remarks.remove(&real)).unwrap_or_default();
             }
             self.lines.push(line);
