@@ -3,6 +3,7 @@
 use super::cursor::is_reserved;
 use super::errors::{fault, Fault};
 use super::lexer::{shown, Lexeme, Token};
+use std::borrow::Cow;
 use std::collections::BTreeMap;
 
 /// No statement grows longer than this by replacing.
@@ -29,7 +30,7 @@ impl Macros {
                 return fault(equals.column, format!("expected = and a text behind '{}'", shown(word)));
             }
             let text = self.replaced(text)?;
-            if self.texts.insert(word.clone(), text.into_iter().map(|lexeme| lexeme.token).collect()).is_some() {
+            if self.texts.insert(word.clone(), text.iter().map(|lexeme| lexeme.token.clone()).collect()).is_some() {
                 return fault(column, format!("'{}' is given twice", shown(word)));
             }
         }
@@ -41,7 +42,10 @@ impl Macros {
     }
 
     /// The lexemes with each name's text in its place. Texts are replaced when they are defined, so once is enough.
-    pub fn replaced(&self, lexemes: &[Lexeme]) -> Result<Vec<Lexeme>, Fault> {
+    pub fn replaced<'a>(&self, lexemes: &'a [Lexeme]) -> Result<Cow<'a, [Lexeme]>, Fault> {
+        if self.texts.is_empty() {
+            return Ok(Cow::Borrowed(lexemes));
+        }
         let mut found = Vec::new();
         for lexeme in lexemes {
             match &lexeme.token {
@@ -55,6 +59,6 @@ impl Macros {
                 return fault(lexeme.column, "the texts of EQU make this statement too long");
             }
         }
-        Ok(found)
+        Ok(Cow::Owned(found))
     }
 }
