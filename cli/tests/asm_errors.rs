@@ -9,6 +9,11 @@ use std::fmt::Write;
 const CASES: &[&str] = &[
     // words and numbers
     "        MOVE W R1,{",
+    "        MOVE W #5,R1",
+    "        MOVE W $10,R1",
+    "        DD \"text\"",
+    "        MOVE W [R1],R2",
+    "        MOVE W R1 | R2",
     "        MOVE W I 12ab,R1",
     "        MOVE W I 100000000h,R1",
     "        MOVE W I H'12G',R1",

@@ -3,7 +3,7 @@
 mod common;
 
 use common::{assembled, golden, image, repository, source, EXAMPLES};
-use desk::image::of_bytes;
+use desk::image::{of_bytes, Image};
 use desk::list::listing;
 use midesk::{Desk, Mark};
 use std::fmt::Write;
@@ -60,19 +60,24 @@ fn listings_are_as_stored() {
     }
 }
 
-/// A listing of a source keeps its names.
+/// A listing of a source keeps its names, also one at the memory's end.
 #[test]
 fn a_listing_keeps_the_names() {
     for example in EXAMPLES {
-        let image = assembled(example, &source(example));
-        let back = assembled(example, &listing(&image, example));
-        for (name, address) in image.names.iter() {
-            assert_eq!(back.names.address_of(name), Some(address), "{example}: {name}");
-        }
-        let programs = |image: &desk::image::Image| {
-            let named = image.programs.iter().map(|p| (p.name.clone(), p.control_block, p.map_base, p.map_length));
-            named.collect::<Vec<_>>()
-        };
-        assert_eq!(programs(&image), programs(&back), "{example}");
+        keeps_names(example, &source(example));
     }
+    keeps_names("ends", "a: b: RES 512\nend: also:\nc: SEG 0\nd: DD W end");
+}
+
+fn keeps_names(title: &str, source: &str) {
+    let image = assembled(title, source);
+    let back = assembled(title, &listing(&image, title));
+    for (name, address) in image.names.iter() {
+        assert_eq!(back.names.address_of(name), Some(address), "{title}: {name}");
+    }
+    let programs = |image: &Image| {
+        let named = image.programs.iter().map(|p| (p.name.clone(), p.control_block, p.map_base, p.map_length));
+        named.collect::<Vec<_>>()
+    };
+    assert_eq!(programs(&image), programs(&back), "{title}");
 }

@@ -84,6 +84,10 @@ fn answers(text: &str) {
         Ok(assembled) => {
             assert!(assembled.image.memory.len() % 512 == 0);
             assert!(assembled.bytes.len() <= assembled.image.memory.len());
+            if assembled.image.memory.len() < 65_536 {
+                let back = common::assembled("listing", &listing(&assembled.image, "listing"));
+                assert!(back.memory == assembled.image.memory, "{text}");
+            }
         }
         Err(complaints) => {
             assert!(!complaints.is_empty());

@@ -161,7 +161,7 @@ fn random_images_come_back() {
             operands.push((*rule, edges(*rule)));
         }
     }
-    for number in 0..3000 {
+    for number in 0..2000 {
         comes_back(&random_image(&mut random, &operands), &format!("random image {number}"));
     }
 }
@@ -171,7 +171,7 @@ fn random_images_come_back() {
 fn damaged_examples_come_back() {
     let mut random = Random(0xDA_0009);
     let images: Vec<Image> = EXAMPLES.into_iter().map(image).collect();
-    for number in 0..1500 {
+    for number in 0..1000 {
         let mut image = random.pick(&images).clone();
         if random.below(2) == 0 {
             image = of_bytes(image.memory);

@@ -74,7 +74,7 @@ impl Scanner {
                 self.at += 1;
                 Token::Mark(first)
             }
-            _ => return fault(column, format!("'{}' has no meaning here", first.escape_default())),
+            _ => return fault(column, format!("'{}' has no meaning here{}", first.escape_default(), hint(first))),
         };
         Ok(Some(Lexeme { token, column }))
     }
@@ -144,6 +144,18 @@ impl Scanner {
             true => fault(column, "this string is empty: expected at least one character"),
             false => Ok(bytes),
         }
+    }
+}
+
+/// What other notations write with a character, and MI's writes otherwise.
+fn hint(character: char) -> &'static str {
+    match character {
+        '#' => "; a remark begins with --, a value is written I 5",
+        '$' => "; a hexadecimal number is written 410h",
+        '"' => "; a string stands between single quotes",
+        '[' | ']' | '@' => "; what is at the address in R1 is written !R1",
+        '|' => "; before a bar only the columns of a listing may stand",
+        _ => "",
     }
 }
 

@@ -60,9 +60,10 @@ impl Ground {
         self.bytes.get(real as usize) == Some(&Byte::Free)
     }
 
-    /// Whether a label may stand there: not inside of something.
+    /// Whether a label may stand there: not inside of something; at the memory's end too.
     pub fn is_boundary(&self, real: u32) -> bool {
-        matches!(self.bytes.get(real as usize), Some(Byte::Free | Byte::First))
+        let at_end = real as usize == self.bytes.len();
+        at_end || matches!(self.bytes.get(real as usize), Some(Byte::Free | Byte::First))
     }
 
     /// The first byte from `real` on, below `end`, that is not free.

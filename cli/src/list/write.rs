@@ -70,12 +70,16 @@ impl Writer<'_> {
     }
 
     fn ending(&mut self) {
+        let end = self.parts.image.memory.len() as u32;
+        if !self.parts.labels.of(end).is_empty() {
+            self.put(end, 0, vec![Line { real: Some(end), ..Line::default() }]);
+        }
         self.lines.push(Line::default());
         if self.parts.image.start != 0x200 {
             let text = format!("START {}", notation::place(self.parts.image.start, &self.parts.labels.kernel));
             self.lines.push(Line { text, ..Line::default() });
         }
-        let text = format!("MEMORY {}", hexadecimal(self.parts.image.memory.len() as u32));
+        let text = format!("MEMORY {}", hexadecimal(end));
         self.lines.push(Line { text, ..Line::default() });
     }
 
