@@ -74,7 +74,8 @@ impl Scanner {
                 self.at += 1;
                 Token::Mark(first)
             }
-            _ => return fault(column, format!("'{}' has no meaning here{}", first.escape_default(), hint(first))),
+            '"' => return fault(column, format!("'\"' has no meaning here{}", hint(first))),
+            _ => return fault(column, format!("'{}' has no meaning here{}", first.escape_debug(), hint(first))),
         };
         Ok(Some(Lexeme { token, column }))
     }
