@@ -28,6 +28,12 @@ impl Names {
         self.names_of(address).first().map(String::as_str)
     }
 
+    /// The name of what lies at an address: that of a block's field, where there is one.
+    pub fn content_of(&self, address: u32) -> Option<&str> {
+        let names = self.names_of(address);
+        names.iter().find(|name| name.contains('.')).or(names.first()).map(String::as_str)
+    }
+
     /// All names of an address, in the order in which they were given.
     pub fn names_of(&self, address: u32) -> &[String] {
         self.by_address.get(&address).map_or(&[], Vec::as_slice)

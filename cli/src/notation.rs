@@ -3,12 +3,12 @@
 use crate::decode::{Decoded, Fields};
 use crate::forms;
 use crate::names::Names;
-use crate::table::Size;
+use crate::table::{Operand, Role, Size};
 
 /// The command as a source writes it: `MOVE W !R0/R2/,R1`. Addresses that have a name are written by it.
 pub fn written(command: &Decoded, names: &Names) -> String {
     let operands = command.operands.iter().zip(command.command.operands);
-    let operands: Vec<String> = operands.map(|(fields, rule)| operand(fields, rule.size, names)).collect();
+    let operands: Vec<String> = operands.map(|(fields, rule)| operand(fields, *rule, names)).collect();
     match operands.is_empty() {
         true => command.command.title(),
         false => format!("{} {}", command.command.title(), operands.join(",")),
@@ -16,11 +16,12 @@ pub fn written(command: &Decoded, names: &Names) -> String {
 }
 
 /// One operand.
-pub fn operand(fields: &Fields, size: Size, names: &Names) -> String {
+pub fn operand(fields: &Fields, rule: Operand, names: &Names) -> String {
     let (x, y) = (register(fields.x), register(fields.y));
     match fields.form {
-        forms::ADDRESS => place(fields.z, names),
-        forms::VALUE => format!("I {}", value(fields.z, size)),
+        forms::ADDRESS if rule.role == Role::Address => place(fields.z, names),
+        forms::ADDRESS => names.content_of(fields.z).map_or_else(|| hexadecimal(fields.z), str::to_string),
+        forms::VALUE => format!("I {}", value(fields.z, rule.size)),
         forms::REGISTER => x,
         forms::BASE => base(fields, names),
         forms::BASE_INDEX => format!("{}/{y}/", base(fields, names)),

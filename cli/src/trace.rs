@@ -79,7 +79,7 @@ pub fn registers(step: &Step) -> Vec<(String, u32, u32)> {
 }
 
 fn memory_change(known: &Known, step: &Step, change: &Change) -> String {
-    let name = known.names(&step.before).name_of(change.address).map(|name| format!("{name} "));
+    let name = known.names(&step.before).content_of(change.address).map(|name| format!("{name} "));
     let place = match step.before.is_kernel() {
         true => hexadecimal(change.real),
         false => format!("{}, real {}", hexadecimal(change.address), hexadecimal(change.real)),
