@@ -114,23 +114,40 @@ fn the_examples_come_back() {
     }
 }
 
+/// The bytes of a command, with addresses below a length in half of its operands.
+fn random_command(random: &mut Random, operands: &[(Operand, Vec<Fields>)], length: usize) -> Vec<u8> {
+    let commands: Vec<&table::Command> = table::commands().collect();
+    let command = *random.pick(&commands);
+    let mut bytes = vec![command.byte];
+    for rule in command.operands {
+        let edges = operands.iter().find(|(operand, _)| operand == rule).expect("its edges");
+        let mut fields = *random.pick(&edges.1);
+        if random.below(2) == 0 && FORMS[usize::from(fields.form)].z && fields.form != forms::VALUE {
+            fields.z = random.below(length) as u32;
+        }
+        bytes.extend(fields.to_bytes());
+    }
+    bytes
+}
+
+/// For each kind of operand the fields at its edges.
+fn all_edges() -> Vec<(Operand, Vec<Fields>)> {
+    let mut operands: Vec<(Operand, Vec<Fields>)> = Vec::new();
+    for rule in table::commands().flat_map(|command| command.operands) {
+        if operands.iter().all(|(operand, _)| operand != rule) {
+            operands.push((*rule, edges(*rule)));
+        }
+    }
+    operands
+}
+
 /// An image of random commands and data, now and then with blocks and a map that could be one.
 fn random_image(random: &mut Random, operands: &[(Operand, Vec<Fields>)]) -> Image {
     let mut memory = vec![0; 512 * (1 + random.below(6))];
     let length = memory.len();
     for _ in 0..random.below(40) {
         let at = random.below(length);
-        let commands: Vec<&table::Command> = table::commands().collect();
-        let command = *random.pick(&commands);
-        let mut bytes = vec![command.byte];
-        for rule in command.operands {
-            let edges = operands.iter().find(|(operand, _)| operand == rule).expect("its edges");
-            let mut fields = *random.pick(&edges.1);
-            if random.below(2) == 0 && FORMS[usize::from(fields.form)].z && fields.form != forms::VALUE {
-                fields.z = random.below(length) as u32;
-            }
-            bytes.extend(fields.to_bytes());
-        }
+        let bytes = random_command(random, operands, length);
         let room = (length - at).min(bytes.len());
         memory[at..at + room].copy_from_slice(&bytes[..room]);
     }
@@ -155,12 +172,7 @@ fn random_image(random: &mut Random, operands: &[(Operand, Vec<Fields>)]) -> Ima
 #[test]
 fn random_images_come_back() {
     let mut random = Random(0x51_0007);
-    let mut operands: Vec<(Operand, Vec<Fields>)> = Vec::new();
-    for rule in table::commands().flat_map(|command| command.operands) {
-        if operands.iter().all(|(operand, _)| operand != rule) {
-            operands.push((*rule, edges(*rule)));
-        }
-    }
+    let operands = all_edges();
     for number in 0..2000 {
         comes_back(&random_image(&mut random, &operands), &format!("random image {number}"));
     }
@@ -205,4 +217,49 @@ fn a_map_that_is_a_control_block_too_comes_back() {
     let image = of_bytes(assembled("source", source).memory);
     assert!(listing(&image, "both").contains("program B: control block at 400h"));
     comes_back(&image, "both");
+}
+
+/// Three programs behind maps that share frames, name one frame twice, leave some out and are damaged now and then.
+fn random_programs(random: &mut Random, operands: &[(Operand, Vec<Fields>)]) -> Image {
+    let mut memory = vec![0; 0x1400];
+    let put = |memory: &mut [u8], at: usize, word: u32| memory[at..at + 4].copy_from_slice(&word.to_be_bytes());
+    for (cause, place) in [(1, 0x207), (8, 0x20E), (9, 0x20E)] {
+        put(&mut memory, 8 * cause, place);
+        put(&mut memory, 8 * cause + 4, 0x8000_0000);
+    }
+    for program in 0..3 {
+        let (block, map) = (0x100 + 0x50 * program, 0x400 + 0x20 * program);
+        memory[0x200 + 7 * program..0x207 + 7 * program].copy_from_slice(&[5, 0, 0, 0, 0, 1, 0x50 * program as u8]);
+        put(&mut memory, block + 60, 512 * random.below(3) as u32 + random.below(2) as u32);
+        put(&mut memory, block + 72, map as u32);
+        put(&mut memory, block + 76, 1 + random.below(8) as u32);
+        for page in 0..8 {
+            let bits = *random.pick(&[0x8000_0000, 0x8000_0000, 0xC000_0000, 0xC000_0000, 0, 0xA000_0000]);
+            put(&mut memory, map + 4 * page, bits + random.below(12) as u32);
+        }
+    }
+    let mut at = 0x600;
+    while at < memory.len() {
+        let bytes = random_command(random, operands, 0x1000);
+        let room = (memory.len() - at).min(bytes.len());
+        memory[at..at + room].copy_from_slice(&bytes[..room]);
+        at += bytes.len() + random.below(40);
+        if random.below(4) == 0 {
+            at = at.next_multiple_of(512);
+        }
+    }
+    of_bytes(memory)
+}
+
+#[test]
+fn random_programs_come_back() {
+    let mut random = Random(0x9A_0003);
+    let operands = all_edges();
+    let mut shown = 0;
+    for number in 0..200 {
+        let image = random_programs(&mut random, &operands);
+        shown += usize::from(listing(&image, "programs").contains(" AT "));
+        comes_back(&image, &format!("programs {number}"));
+    }
+    assert!(shown > 100, "only {shown} have a program's page");
 }
