@@ -66,7 +66,17 @@ fn a_listing_keeps_the_names() {
     for example in EXAMPLES {
         keeps_names(example, &source(example));
     }
+    keeps_names("like numbers", "each: DD W 5\nbeach: JUMP each\nFFh_: DD W EACh");
     keeps_names("ends", "a: b: RES 512\nend: also:\nc: SEG 0\nd: DD W end");
+}
+
+/// A label that reads as a number that the listing writes gets another name, and the numbers stay.
+#[test]
+fn a_name_that_reads_as_a_number_is_changed() {
+    let image = assembled("source", "FFFh: JUMP FFFh\nMOVE W I 0FFFh,R1");
+    let text = listing(&image, "source");
+    assert!(text.contains("FFFh_2: JUMP FFFh_2") && text.contains("MOVE W I FFFh,R1"), "{text}");
+    assert_eq!(assembled("listing", &text).memory, image.memory);
 }
 
 fn keeps_names(title: &str, source: &str) {

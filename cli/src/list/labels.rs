@@ -62,7 +62,8 @@ impl Labels {
     }
 
     fn add(&mut self, real: u32, name: &str) {
-        let clashes = |name: &str| asm::is_reserved(name) || notation::number(name).is_some();
+        let is_written_number = |name: &str| notation::number(name).is_some_and(|n| notation::hexadecimal(n) == name);
+        let clashes = |name: &str| asm::is_reserved(name) || is_written_number(name);
         let mut unique = name.to_string();
         let mut number = 2;
         while clashes(&unique) || self.used.contains(&unique) {

@@ -44,7 +44,8 @@ pub fn listing(image: &Image, title: &str) -> String {
     {
         blocks.insert(image.system, Block::System);
     }
-    let trial = if image.lines.is_empty() { trial::run(image) } else { Trial::default() };
+    let is_known = !image.lines.is_empty() && !image.programs.is_empty();
+    let trial = if is_known { Trial::default() } else { trial::run(image) };
     let mut programs = image.programs.clone();
     add_programs(image, &mut programs, &trial.blocks);
     take_blocks(image, &programs, &mut ground, &mut blocks);
