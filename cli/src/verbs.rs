@@ -129,7 +129,7 @@ pub const VERBS: &[Verb] = &[
         summary: "steps through a program at a prompt, forwards and backwards",
         options: &[
             with("--script", "SCRIPT", "takes the lines from this file instead of standard input"),
-            flag("--echo", "writes each line that it takes, behind the prompt"),
+            flag("--echo", "writes each line that it takes, behind a prompt, where none is typed at a terminal"),
             MEMORY,
             SYSTEM,
             CONTROL,

@@ -24,7 +24,7 @@ fn found(code: &[u8]) -> Option<Finding> {
 
 #[test]
 fn alarms_in_kernel_mode() {
-    let cases: [(&[u8], Finding); 9] = [
+    let cases: [(&[u8], Finding); 10] = [
         (&[0x10, 0, 0, 0, 0, 4, 0, 2, 0, 0, 0, 0, 0], Finding::Cause(8, 0x400)),
         (&[0x12, 0, 0, 0, 0, 3, 0xFE, 2, 0, 0, 0, 0, 0], Finding::Cause(8, 0x400)),
         (&[0x12, 1, 0, 0, 0, 0, 0, 0, 0, 0, 0, 3, 0xFD], Finding::Cause(8, 0x400)),
@@ -33,6 +33,7 @@ fn alarms_in_kernel_mode() {
         (&[0x10, 1, 0, 0, 0, 0, 2, 9, 0, 0, 0, 0, 0], Finding::Cause(14, 2)),
         (&[5, 1, 0, 0, 0, 1, 0], Finding::Cause(14, 1)),
         (&[5, 0, 0, 0, 0, 1, 2], Finding::Block(0x102)),
+        (&[0x16, 2, 0, 0, 0, 0, 0, 5, 0, 0, 0, 0, 1, 2], Finding::Block(0x102)),
         (&[0x58, 1, 0, 0, 0, 0, 0, 2, 0, 0, 0, 0, 0], Finding::Cause(15, 0)),
     ];
     for (code, finding) in cases {

@@ -82,7 +82,7 @@ pub fn dialogue(
             out.flush()?;
         }
         let Some(line) = next_line(lines)? else { break };
-        if echo {
+        if echo && place != Place::Prompt {
             writeln!(out, "{}", format!("{PROMPT}{}", options::clean(&line)).trim_end())?;
         }
         match session.line(&line, out) {
