@@ -44,8 +44,7 @@ pub fn listing(image: &Image, title: &str) -> String {
     {
         blocks.insert(image.system, Block::System);
     }
-    let is_known = !image.lines.is_empty() && !image.programs.is_empty();
-    let trial = if is_known { Trial::default() } else { trial::run(image) };
+    let trial = trial_of(image);
     let mut programs = image.programs.clone();
     add_programs(image, &mut programs, &trial.blocks);
     take_blocks(image, &programs, &mut ground, &mut blocks);
@@ -61,6 +60,19 @@ pub fn listing(image: &Image, title: &str) -> String {
     let labels = Labels::new(&sources);
     let (programs, ground, code, blocks, labels) = (&programs, &ground, &code, &blocks, &labels);
     write::written(&write::Parts { image, title, programs, ground, code, blocks, labels })
+}
+
+/// What a trial run tells that the image does not: of a source neither its programs, if it has some, nor the kernel's code.
+fn trial_of(image: &Image) -> Trial {
+    let of_source = !image.lines.is_empty();
+    if of_source && !image.programs.is_empty() {
+        return Trial::default();
+    }
+    let mut trial = trial::run(image);
+    if of_source {
+        trial.kernel.clear();
+    }
+    trial
 }
 
 /// The kernel's code: from the start, from the system block, and from where a trial run or the source has commands.
