@@ -14,6 +14,8 @@ pub struct Ran {
     pub end: End,
     /// The last kernel entry, where it is known.
     pub entry: Option<Entry>,
+    /// The desk before the last step but one, where it is known: where the last one came from.
+    pub origin: Option<Desk>,
 }
 
 /// So many steps are made singly at the beginning, and again at the end of a long run, to see the kernel entries there.
@@ -26,13 +28,14 @@ const COPIED: usize = 1 << 20;
 
 /// Runs the machine by the plan.
 pub fn run(machine: &mut Machine, plan: &Plan, show: &mut Show) -> io::Result<Ran> {
-    let mut runner = Runner { machine, plan, entry: None, requests: 0 };
+    let mut runner = Runner { machine, plan, entry: None, requests: 0, before: [None, None] };
     let singly = plan.trace || plan.until.is_some();
     let end = match runner.singly(if singly { u64::MAX } else { SINGLY }, show)? {
         Some(end) => end,
         None => runner.in_pieces(),
     };
-    Ok(Ran { end, entry: runner.entry })
+    let [origin, _] = runner.before;
+    Ok(Ran { end, entry: runner.entry, origin })
 }
 
 struct Runner<'a> {
@@ -41,6 +44,8 @@ struct Runner<'a> {
     entry: Option<Entry>,
     /// How many of the plan's requests are made.
     requests: usize,
+    /// The desks before the last two single steps.
+    before: [Option<Desk>; 2],
 }
 
 impl Runner<'_> {
@@ -74,7 +79,14 @@ impl Runner<'_> {
         }
     }
 
+    /// Remembers the desk before a single step.
+    fn remember(&mut self) {
+        self.before.swap(0, 1);
+        self.before[1] = Some(self.machine.desk.clone());
+    }
+
     fn step(&mut self, show: &mut Show) -> io::Result<Result<Event, Refusal>> {
+        self.remember();
         if self.plan.trace {
             return match self.machine.step() {
                 Ok(step) => {
@@ -124,6 +136,7 @@ impl Runner<'_> {
             false => Vec::new(),
         };
         self.entry = None;
+        self.before = [None, None];
         while self.machine.steps < self.plan.limit {
             if let Err(refusal) = self.request() {
                 return End::Refused(refusal);
@@ -163,7 +176,9 @@ impl Runner<'_> {
         self.machine.steps -= made;
         let skipped = self.machine.desk.run(&mut self.machine.memory, made.saturating_sub(SINGLY)).unwrap_or(0);
         self.machine.steps += skipped;
-        while let Ok(event) = self.machine.desk.step(&mut self.machine.memory) {
+        while self.machine.desk.is_running() {
+            self.remember();
+            let Ok(event) = self.machine.desk.step(&mut self.machine.memory) else { return };
             self.machine.steps += 1;
             self.judged(event);
         }

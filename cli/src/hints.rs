@@ -4,7 +4,7 @@ use crate::decode::{Fields, Trouble};
 use crate::diagnose::Finding;
 use crate::effect;
 use crate::forms;
-use crate::machine::Known;
+use crate::machine::{self, Known};
 use crate::notation::hexadecimal;
 use crate::table::{self, Operand, Role};
 use crate::view::{self, Damage};
@@ -15,6 +15,9 @@ use midesk::{numbers, Desk};
 pub fn of(known: &Known, memory: &[u8], desk: &Desk, finding: Finding) -> Option<String> {
     match finding {
         Finding::Block(at) => Some(block(memory, at)),
+        Finding::Cause(8..=11, _) if no_stack(memory, desk) => {
+            Some("SP is 0: it must be set before the first CALL or PUSHR".to_string())
+        }
         Finding::Cause(8..=11, address) if desk.is_kernel() => {
             let end = hexadecimal(memory.len() as u32);
             Some(format!("the memory ends at {end}; the address {} is not in it", hexadecimal(address)))
@@ -32,6 +35,12 @@ pub fn of(known: &Known, memory: &[u8], desk: &Desk, finding: Finding) -> Option
         Finding::Cause(15, _) => Some("the divisor, which is the first operand, is 0".to_string()),
         Finding::Cause(..) => None,
     }
+}
+
+/// Whether the command is one that puts something on the stack while SP is still 0.
+fn no_stack(memory: &[u8], desk: &Desk) -> bool {
+    let command = machine::command_at(desk, memory, desk.register(15));
+    desk.register(14) == 0 && command.is_ok_and(|command| matches!(command.command.name, "CALL" | "PUSHR"))
 }
 
 /// What the map has for an address.

@@ -115,6 +115,13 @@ pub fn notes(machine: &Machine, end: &End, finding: Option<Finding>) -> Vec<Stri
     notes
 }
 
+/// Where the desk came from, if it stopped where there is no command: the step before may be a jump gone astray.
+pub fn origin(machine: &Machine, end: &End, before: Option<&Desk>) -> Option<String> {
+    let astray = machine.command_at(machine.desk.register(15)).is_err();
+    let before = before.filter(|_| astray && matches!(end, End::Stopped(1..)))?;
+    Some(format!("came from: {}", commanded(machine, before)))
+}
+
 /// The finding behind a stop that is no HALT.
 pub fn finding(machine: &Machine, end: &End) -> Option<Finding> {
     match end {

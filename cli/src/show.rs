@@ -1,5 +1,6 @@
 //! What `desk run` writes: the trace and the end, as text or as JSON lines.
 
+use crate::diagnose::Finding;
 use crate::dump;
 use crate::engine::Ran;
 use crate::json::Json;
@@ -66,10 +67,17 @@ pub fn status(end: &End) -> u8 {
     }
 }
 
+/// Where to look, and where the desk came from.
+fn notes(machine: &Machine, ran: &Ran, finding: Option<Finding>) -> Vec<String> {
+    let mut notes = report::notes(machine, &ran.end, finding);
+    notes.extend(report::origin(machine, &ran.end, ran.origin.as_ref()));
+    notes
+}
+
 fn end_lines(machine: &Machine, plan: &Plan, ran: &Ran) -> Vec<String> {
     let finding = report::finding(machine, &ran.end);
     let mut lines = vec![report::headline(machine, &ran.end, finding)];
-    lines.extend(report::notes(machine, &ran.end, finding).iter().flat_map(|note| words::folded(note, 2, 4)));
+    lines.extend(notes(machine, ran, finding).iter().flat_map(|note| words::folded(note, 2, 4)));
     if let Some(Entry { step, words, hint, .. }) = &ran.entry {
         lines.extend(words::folded(&format!("last kernel entry: step {}, {words}", words::count(*step)), 0, 4));
         lines.extend(hint.iter().flat_map(|hint| words::folded(&format!("look at: {hint}"), 2, 4)));
@@ -164,7 +172,7 @@ fn end_object(machine: &Machine, plan: &Plan, ran: &Ran, status: u8) -> Json {
         End::Refused(refusal) => ("refused", Some(refusal.number())),
     };
     let finding = report::finding(machine, &ran.end);
-    let hints = report::notes(machine, &ran.end, finding).into_iter().map(Json::Text).collect();
+    let hints = notes(machine, ran, finding).into_iter().map(Json::Text).collect();
     let desk = &machine.desk;
     Json::Object(vec![
         ("end", Json::text(end)),

@@ -123,3 +123,39 @@ fn alarms_of_a_program_in_words() {
         }
     }
 }
+
+/// Kernel code at 200h, run: the end in words without the registers.
+fn words(name: &str, code: &str) -> String {
+    let file = written(name, format!("        SEG 200h\n{code}").as_bytes());
+    let (out, _) = said(&["run", &file]);
+    out.split("\n\n").next().expect("words").to_string()
+}
+
+#[test]
+fn a_jump_gone_astray_is_told() {
+    let astray = words("astray.mi", "start:  JUMP 5000h\n");
+    assert!(astray.contains("stop 8 after 2 steps, in kernel mode: address 5000h is past the memory"), "{astray}");
+    assert!(astray.contains("came from: the kernel at start (200h): JUMP"), "{astray}");
+    let into_data = words("data.mi", "start:  CLEAR W R0\n        DD B FFh\n");
+    assert!(into_data.contains("came from: the kernel at start (200h): CLEAR W R0 (line 2)"), "{into_data}");
+    assert!(!words("divided.mi", "start:  DIV W R1,R2\n").contains("came from"));
+}
+
+/// Also where it happens after millions of steps.
+#[test]
+fn a_jump_gone_astray_in_a_long_run() {
+    let code = "start:  MOVE W I 1000000,R1\nloop:   SUB W I 1,R1\n        JNE loop\nout:    JUMP 7000h\n";
+    let astray = words("astray_long.mi", code);
+    assert!(astray.contains("stop 8 after 2,000,003 steps"), "{astray}");
+    assert!(astray.contains("came from: the kernel at out (221h): JUMP 7000h (line 5)"), "{astray}");
+}
+
+#[test]
+fn a_stack_that_is_not_set_up_is_told() {
+    for code in ["start:  PUSHR\n", "start:  CALL start\n"] {
+        assert!(
+            words("stack.mi", code).contains("look at: SP is 0: it must be set before the first CALL or PUSHR"),
+            "{code}"
+        );
+    }
+}
