@@ -2,7 +2,7 @@
 
 use crate::names::Names;
 use crate::table::Size;
-use crate::{asm, hex};
+use crate::{asm, hex, list, output};
 use std::fmt;
 use std::fs::File;
 use std::io::Read;
@@ -21,6 +21,10 @@ pub struct Image {
     pub lines: Vec<SourceLine>,
     /// The lines inside of blocks and maps, ON and PAGE, likewise.
     pub entries: Vec<SourceLine>,
+    /// Whether names and programs are those that a listing makes, since the file brings none.
+    pub names_are_made: bool,
+    /// What may be wrong with the file.
+    pub warnings: Vec<Complaint>,
 }
 
 /// A user program: a control block with its map.
@@ -69,25 +73,67 @@ impl fmt::Display for Complaint {
     }
 }
 
+impl Complaint {
+    /// As it is written where the file can be used all the same.
+    pub fn as_warning(&self) -> String {
+        Complaint { sentence: format!("warning: {}", self.sentence), ..self.clone() }.to_string()
+    }
+}
+
 pub const LARGEST: usize = 16_777_216;
 
 /// The image of a file. The memory is filled up with zeros to a multiple of 512, at least 512.
 pub fn load(path: &Path) -> Result<Image, Vec<Complaint>> {
     let file = path.display().to_string();
-    match path.extension().and_then(|ending| ending.to_str()) {
-        Some("mi" | "MI") => Ok(asm::assemble(&file, &read_text(path)?)?.image),
-        Some("hex") => Ok(of_bytes(hex::bytes(&file, &read(path)?)?)),
+    match ending(path).as_str() {
+        "mi" => Ok(asm::assemble(&file, &text(path, read_whole(path)?)?)?.image),
+        "hex" => named(&file, hex::bytes(&file, &read_whole(path)?)?, Vec::new()),
+        ending => {
+            let bytes = read_whole(path)?;
+            let warnings = match is_text(&bytes) {
+                true if ending == "bin" => vec![complaint(&file, 0, 0, IS_TEXT_ALL_THE_SAME.to_string())],
+                true => return Err(vec![complaint(&file, 0, 0, IS_TEXT.to_string())]),
+                false => Vec::new(),
+            };
+            named(&file, bytes, warnings)
+        }
+    }
+}
+
+const IS_TEXT: &str = "this is text, and its name is that of a file of bytes: the name of a source ends in .mi, that of commented hexadecimal in .hex (that of bytes which look like text in .bin)";
+const IS_TEXT_ALL_THE_SAME: &str =
+    "this is text, and is taken as bytes: the name of a source ends in .mi, that of commented hexadecimal in .hex";
+
+/// The ending of a name, in small letters.
+pub fn ending(path: &Path) -> String {
+    path.extension().and_then(|ending| ending.to_str()).unwrap_or("").to_ascii_lowercase()
+}
+
+/// Whether bytes are printable characters and line ends alone.
+fn is_text(bytes: &[u8]) -> bool {
+    let plain = |byte: &u8| matches!(byte, b' '..=b'~' | b'\t' | b'\n' | b'\r' | 0x80..);
+    bytes.iter().all(plain) && std::str::from_utf8(bytes).is_ok()
+}
+
+/// The image of bytes, with the names that a listing makes.
+fn named(file: &str, bytes: Vec<u8>, warnings: Vec<Complaint>) -> Result<Image, Vec<Complaint>> {
+    let wrong = match bytes.len() {
+        0 => "gives no bytes".to_string(),
+        length if length > LARGEST => format!("has more than the {LARGEST} bytes of the largest memory"),
         _ => {
-            let bytes = read(path)?;
-            match bytes.len() <= LARGEST {
-                true => Ok(of_bytes(bytes)),
-                false => Err(vec![complaint(
-                    &file,
-                    0,
-                    0,
-                    format!("has more than the {LARGEST} bytes of the largest memory"),
-                )]),
-            }
+            let mut image = Image { warnings, names_are_made: true, ..of_bytes(bytes) };
+            image.make_names();
+            return Ok(image);
+        }
+    };
+    Err(vec![complaint(file, 0, 0, wrong)])
+}
+
+impl Image {
+    /// Makes the names anew where the file brings none: after memory, blocks or start have changed.
+    pub fn make_names(&mut self) {
+        if self.names_are_made {
+            (self.names, self.programs) = list::made_names(self);
         }
     }
 }
@@ -99,12 +145,24 @@ const LARGEST_FILE: u64 = 1 << 28;
 pub fn read(path: &Path) -> Result<Vec<u8>, Vec<Complaint>> {
     let file = path.display().to_string();
     let wrong = |sentence: String| vec![Complaint { unread: true, ..complaint(&file, 0, 0, sentence) }];
-    let opened = File::open(path).map_err(|e| wrong(format!("cannot be read: {e}")))?;
+    let opened = File::open(path).map_err(|e| wrong(format!("cannot be read: {}", output::reason(&e))))?;
     let mut content = Vec::new();
-    opened.take(LARGEST_FILE + 1).read_to_end(&mut content).map_err(|e| wrong(format!("cannot be read: {e}")))?;
+    opened
+        .take(LARGEST_FILE + 1)
+        .read_to_end(&mut content)
+        .map_err(|e| wrong(format!("cannot be read: {}", output::reason(&e))))?;
     match content.len() as u64 <= LARGEST_FILE {
         true => Ok(content),
         false => Err(wrong(format!("has more than {LARGEST_FILE} bytes"))),
+    }
+}
+
+/// The bytes of a file that has some.
+fn read_whole(path: &Path) -> Result<Vec<u8>, Vec<Complaint>> {
+    let bytes = read(path)?;
+    match bytes.is_empty() {
+        true => Err(vec![complaint(&path.display().to_string(), 0, 0, "is empty".to_string())]),
+        false => Ok(bytes),
     }
 }
 
@@ -113,7 +171,10 @@ const BYTE_ORDER_MARK: &[u8] = b"\xEF\xBB\xBF";
 
 /// A file as text.
 pub fn read_text(path: &Path) -> Result<String, Vec<Complaint>> {
-    let mut bytes = read(path)?;
+    text(path, read(path)?)
+}
+
+fn text(path: &Path, mut bytes: Vec<u8>) -> Result<String, Vec<Complaint>> {
     if bytes.starts_with(BYTE_ORDER_MARK) {
         bytes.drain(..BYTE_ORDER_MARK.len());
     }
@@ -133,6 +194,16 @@ pub fn complaint(file: &str, line: usize, column: usize, sentence: String) -> Co
 pub fn of_bytes(mut memory: Vec<u8>) -> Image {
     let length = memory.len().div_ceil(512).max(1) * 512;
     memory.resize(length, 0);
-    let (names, programs, lines, entries) = (Names::none(), Vec::new(), Vec::new(), Vec::new());
-    Image { memory, system: 0, control: 0x100, start: 0x200, names, programs, lines, entries }
+    Image {
+        memory,
+        system: 0,
+        control: 0x100,
+        start: 0x200,
+        names: Names::none(),
+        programs: Vec::new(),
+        lines: Vec::new(),
+        entries: Vec::new(),
+        names_are_made: false,
+        warnings: Vec::new(),
+    }
 }

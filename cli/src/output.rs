@@ -1,6 +1,9 @@
 //! Writing to standard output and standard error without a panic where nobody reads.
 
+use crate::options;
+use std::fs::Metadata;
 use std::io::{self, Write};
+use std::os::unix::fs::MetadataExt;
 
 /// Writes to standard output; false where that is not possible (a closed pipe, a full disk).
 pub fn out(text: &str) -> bool {
@@ -30,13 +33,44 @@ pub fn complain(complaints: &[crate::image::Complaint]) -> u8 {
     }
 }
 
-/// Writes a file, and gives the exit status.
-pub fn write(target: &str, bytes: &[u8]) -> u8 {
+/// Tells what may be wrong with a file that can be used all the same, a line each.
+pub fn warn(warnings: &[crate::image::Complaint]) {
+    for warning in warnings {
+        err(&format!("{}\n", warning.as_warning()));
+    }
+}
+
+/// Writes a file that is made from another, and gives the exit status. What it is made from is not written over.
+pub fn write(source: &str, target: &str, bytes: &[u8]) -> u8 {
+    let shown = options::shown(target);
+    if target.is_empty() {
+        err("-o needs the name of a file, and an empty one is given\n");
+        return USAGE;
+    }
+    if is_same_file(source, target) {
+        err(&format!("{shown}: this is the file that is read; it is left as it is: give -o another name\n"));
+        return USAGE;
+    }
     match std::fs::write(target, bytes) {
         Ok(()) => 0,
-        Err(e) => {
-            err(&format!("{target}: cannot be written: {e}\n"));
+        Err(error) => {
+            err(&format!("{shown}: cannot be written: {}\n", reason(&error)));
             CANNOT_WRITE
         }
     }
+}
+
+/// Whether two names lead to one file, also through links.
+fn is_same_file(one: &str, other: &str) -> bool {
+    let identity = |path| {
+        let found = std::fs::metadata(path).ok().filter(Metadata::is_file)?;
+        Some((found.dev(), found.ino()))
+    };
+    identity(one).is_some_and(|one| identity(other) == Some(one))
+}
+
+/// Why a file cannot be read or written, without the system's number for it.
+pub fn reason(error: &io::Error) -> String {
+    let text = error.to_string();
+    text.split(" (os error").next().unwrap_or(&text).to_string()
 }

@@ -16,8 +16,19 @@ pub fn refusal_status(refusal: Refusal) -> u8 {
 pub fn image(verb: &str, given: &Given) -> Result<Image, u8> {
     let file = given.operands.first().map_or("", String::as_str);
     let mut image = read(file)?;
+    output::warn(&image.warnings);
     apply(&mut image, given).map_err(|sentence| options::usage(verb, &sentence))?;
+    if given.has("--start") && only_zeros(&image) {
+        output::err(&format!("desk {verb}: warning: at the start, {:X}h, are only zeros, which are HALTs\n", image.start));
+    }
+    image.make_names();
     Ok(image)
+}
+
+/// Whether nothing but zeros, or nothing at all, stands where the desk starts.
+fn only_zeros(image: &Image) -> bool {
+    let from = image.memory.get(image.start as usize..).unwrap_or(&[]);
+    from.iter().take(16).all(|byte| *byte == 0)
 }
 
 /// A fresh desk over the image of the file; else the exit status, after a sentence.

@@ -37,7 +37,7 @@ pub const TOPICS: &[Topic] = &[
         name: "numbers",
         title: "NUMBERS",
         in_overview: true,
-        text: &[Say("A number is decimal, or hexadecimal with h at its end: 410h, also 0x410 and H'410'. In what `desk` writes, a number that ends in h is hexadecimal, a row of eight digits too, any other decimal.")],
+        text: &[Say("A number is decimal, or hexadecimal with h at its end: 410h, also 0x410 and H'410'. In what `desk` writes, a number that ends in h is hexadecimal, a row of eight digits too, and all before the bar of a listing but the number before `*`; any other is decimal.")],
     },
     Topic {
         name: "stops",

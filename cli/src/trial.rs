@@ -3,7 +3,7 @@
 use crate::image::{Image, Program};
 use crate::names::Names;
 use crate::view;
-use midesk::{numbers, Desk};
+use midesk::{numbers, Desk, Mark};
 use std::collections::BTreeSet;
 
 /// Steps of the trial run.
@@ -28,6 +28,9 @@ pub fn run(image: &Image) -> Trial {
     let mut trial = Trial::default();
     let Ok(mut desk) = Desk::fresh(&memory, image.system, image.control, image.start) else { return trial };
     for _ in 0..STEPS {
+        if desk.mark() != Mark::Running {
+            break;
+        }
         let (kernel, r15) = (desk.is_kernel(), desk.register(15));
         match kernel {
             true => trial.kernel.insert(r15),
@@ -44,16 +47,17 @@ pub fn run(image: &Image) -> Trial {
     trial
 }
 
-/// The program of a control block, if the block lies in the memory. Programs without a name are called A, B, C ..
+/// The program of a control block, if the block lies in the memory. It is called by its control block's name, which is made
+/// here: blockA, blockB, blockC ..
 pub fn program(memory: &[u8], block: u32, place: usize) -> Option<Program> {
     let word = |offset: usize| view::word(memory, block.checked_add(offset as u32)?);
     let (map_base, map_length) = (word(numbers::CONTROL_MAP_BASE)?, word(numbers::CONTROL_MAP_LENGTH)?);
-    Some(Program { name: letter(place), control_block: block, map_base, map_length, names: Names::none() })
+    Some(Program { name: made_name(place), control_block: block, map_base, map_length, names: Names::none() })
 }
 
-fn letter(place: usize) -> String {
+fn made_name(place: usize) -> String {
     match u8::try_from(place) {
-        Ok(place @ 0..=25) => char::from(b'A' + place).to_string(),
-        _ => format!("P{}", place + 1),
+        Ok(place @ 0..=25) => format!("block{}", char::from(b'A' + place)),
+        _ => format!("block{}", place + 1),
     }
 }

@@ -147,8 +147,19 @@ pub const VERBS: &[Verb] = &[
         operands: "FILE",
         count: (1, 1),
         summary: "lists a program: address, bytes, command and operands in MI's notation",
-        options: &[output("writes the listing to FILE instead of standard output"), MEMORY, SYSTEM, CONTROL, START],
-        text: &[Say("Code is found by following it from the start, from the entries of the system block and from the control blocks through their maps; everything else is data. `desk asm` takes the listing as a source and gives the same bytes.")],
+        options: &[
+            output("writes the listing to FILE instead of standard output"),
+            flag("--plain", "without the columns of addresses and bytes: for a source that is to be changed"),
+            MEMORY,
+            SYSTEM,
+            CONTROL,
+            START,
+        ],
+        text: &[
+            Say("Code is found by following it from the start, from the entries of the system block and from the control blocks through their maps; everything else is data. `desk asm` takes the listing as a source and gives the same bytes."),
+            Say("The columns before the bar are the real address, in a program's pages the virtual address too, and the bytes; all in hexadecimal without h, `16*00` is 16 times 00. `desk asm` goes by what stands behind the bar: to change the program, change that. It warns where the columns say something else."),
+            Say("Names that the file does not bring are made: L207 is code of the kernel, D410 its data, blockA a control block and the program that it belongs to, mapA its map, blockA_400 its virtual address 400h. The other verbs know the same names."),
+        ],
     },
     Verb {
         name: "asm",

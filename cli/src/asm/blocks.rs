@@ -3,9 +3,11 @@
 use super::emit::Context;
 use super::errors::{fault, Errors, Fault};
 use super::fields;
+use super::layout::{Layout, Position};
 use super::sizes;
 use super::syntax::{CauseKind, Entry, Expression, Field, FieldName, Frame, Page, PageContent};
 use crate::image::LARGEST;
+use crate::view::{self, Damage};
 
 const KERNEL: u32 = 0x8000_0000;
 const PRESENT: u32 = 0x8000_0000;
@@ -149,4 +151,24 @@ fn frame(context: &Context, frame: &Frame) -> Result<u32, Fault> {
             }
         }
     }
+}
+
+/// The lines of a map whose frames are not all in the memory.
+pub fn past_memory(pages: &[Page], layout: &Layout, position: &Position, memory: &[u8]) -> Vec<(usize, Fault)> {
+    let frames = memory.len() / 512;
+    let mut found = Vec::new();
+    for page in pages {
+        let first = layout.symbols.word(&page.first, position.segment).unwrap_or(0);
+        let last = sizes::last_page(page, &layout.symbols, position.segment).unwrap_or(first);
+        let entry = |page: u32| view::word(memory, position.real.checked_add(page.checked_mul(4)?)?);
+        let is_past = |page: &u32| {
+            let leads = entry(*page).map(|entry| view::entry_of(memory, *page, entry));
+            matches!(leads, Some(Err(Damage::PastMemory { .. })))
+        };
+        if let Some(frame) = (first..=last).find(is_past).and_then(entry).map(|entry| entry & LAST_FRAME) {
+            let sentence = format!("frame {frame} is past the memory, which has the frames 0 to {}: a use of this page is alarm 10; MEMORY makes the memory longer", frames.saturating_sub(1));
+            found.push((page.line, Fault { column: page.first.column, sentence }));
+        }
+    }
+    found
 }

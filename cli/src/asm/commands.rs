@@ -62,8 +62,8 @@ fn meant(word: &str) -> String {
     if MI_ALONE.split(' ').any(|name| name == word) {
         return "MI has this command, the desk does not".to_string();
     }
-    let names = table::commands().map(|command| command.name);
-    match options::nearest(word, names).filter(|name| name.chars().next() == word.chars().next() && word.len() > 2) {
+    let names = table::commands().map(|command| command.name).filter(|name| name.chars().next() == word.chars().next());
+    match options::nearest(word, names).filter(|_| word.len() > 2) {
         Some(name) => format!("did you mean {name}?"),
         None => "expected a command, a directive, or a name with ':' behind it".to_string(),
     }

@@ -28,6 +28,10 @@ impl Errors {
         Errors { file: file.to_string(), complaints: Vec::new(), more: 0 }
     }
 
+    pub fn file(&self) -> &str {
+        &self.file
+    }
+
     pub fn add(&mut self, line: usize, fault: Fault) {
         if self.complaints.len() == MOST {
             self.more += 1;
@@ -51,11 +55,11 @@ impl Errors {
         self.complaints.is_empty()
     }
 
-    /// In the order of the source.
-    pub fn into_complaints(mut self) -> Vec<Complaint> {
+    /// In the order of the source; `kind` is what they are called.
+    pub fn into_complaints(mut self, kind: &str) -> Vec<Complaint> {
         self.complaints.sort_by_key(|complaint| (complaint.line, complaint.column));
         if self.more > 0 {
-            let sentence = format!("and {} more errors", self.more);
+            let sentence = format!("and {} more {kind}", self.more);
             self.complaints.push(complaint(&self.file, 0, 0, sentence));
         }
         self.complaints

@@ -30,7 +30,7 @@ struct Scanner {
 /// The lexemes of a line, without its remark and without the columns of a listing; and the fault that ends them early.
 pub fn lexemes(line: &str) -> (Vec<Lexeme>, Option<Fault>) {
     let characters: Vec<char> = line.chars().collect();
-    let at = after_columns(&characters);
+    let at = columns(line).map_or(0, |columns| columns.len() + 1);
     let mut scanner = Scanner { characters, at };
     let mut found = Vec::new();
     loop {
@@ -42,14 +42,11 @@ pub fn lexemes(line: &str) -> (Vec<Lexeme>, Option<Fault>) {
     }
 }
 
-/// What stands before a bar is the listing's: addresses and bytes, which are not read.
-fn after_columns(characters: &[char]) -> usize {
-    let in_columns = |c: &&char| c.is_ascii_hexdigit() || " .*\t".contains(**c);
-    let columns = characters.iter().take_while(in_columns).count();
-    match characters.get(columns) {
-        Some('|') => columns + 1,
-        _ => 0,
-    }
+/// What stands before a bar is the listing's: addresses and bytes, which are not assembled.
+pub fn columns(line: &str) -> Option<&str> {
+    let (columns, _) = line.split_once('|')?;
+    let in_columns = |c: char| c.is_ascii_hexdigit() || " .*\t".contains(c);
+    columns.chars().all(in_columns).then_some(columns)
 }
 
 impl Scanner {

@@ -3,6 +3,7 @@
 //! `lexer` makes words, `parser` statements, `layout` addresses, `emit` bytes. `docs/MACHINE.md` describes the notation.
 
 mod blocks;
+mod columns;
 mod commands;
 mod cursor;
 mod data;
@@ -40,6 +41,6 @@ pub fn assemble(file: &str, source: &str) -> Result<Assembled, Vec<Complaint>> {
     let assembled = result::assembled(source, &statements, &layout, bytes, &mut errors);
     match errors.is_empty() {
         true => Ok(assembled),
-        false => Err(errors.into_complaints()),
+        false => Err(errors.into_complaints("errors")),
     }
 }

@@ -36,13 +36,20 @@ impl Parser<'_> {
         let (lexemes, broken) = lexer::lexemes(text);
         let end = lexemes.last().map_or(1, |last| last.column + width(&last.token));
         let mut parts = lexemes.split(|lexeme| lexeme.token == Token::Mark(';')).peekable();
+        let mut behind_another = false;
         while let Some(part) = parts.next() {
             let whole = parts.peek().is_some() || broken.is_none();
             match self.statement(number, part, end, whole) {
                 Ok(false) => {}
                 Ok(true) => return true,
-                Err(fault) => self.errors.add(number, fault),
+                Err(fault) => {
+                    self.errors.add(number, if behind_another { maybe_remark(fault, part) } else { fault });
+                    if behind_another {
+                        return false;
+                    }
+                }
             }
+            behind_another = true;
         }
         if let Some(fault) = broken {
             self.errors.add(number, fault);
@@ -138,6 +145,17 @@ impl Parser<'_> {
             return fault(column, format!("'{}' is given twice: EQU has it already", shown(name)));
         }
         Ok(Label { name: name.to_string(), line, column })
+    }
+}
+
+/// Words behind a semicolon that are no statement are hardly ever meant as one.
+fn maybe_remark(fault: Fault, part: &[Lexeme]) -> Fault {
+    match part.first().map(|lexeme| &lexeme.token) {
+        Some(Token::Word(word)) if is_reserved(word) => fault,
+        _ => Fault {
+            sentence: "';' ends a statement, and what follows is none; a remark begins with --".to_string(),
+            ..fault
+        },
     }
 }
 

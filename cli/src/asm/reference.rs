@@ -4,21 +4,25 @@ pub const LINES: &[(&str, &str)] = &[
     ("name:", "a label: the name of the place that follows"),
     ("-- ..", "a remark, up to the line's end"),
     (";", "ends a statement, as the line's end does"),
-    ("0200 7A |", "digits before a bar are the columns of a listing, and not read"),
+    (
+        "0200 7A |",
+        "digits before a bar are the columns of a listing, and not assembled; a warning tells where they disagree",
+    ),
     ("410h, 0x410, H'410'", "hexadecimal; FFFh is a number where no label is called so"),
     ("1040, -1, B'101', 'A'", "decimal, binary, a character"),
     ("list+4, end-list", "sums of numbers and names"),
 ];
 
 pub const DIRECTIVES: &[(&str, &str)] = &[
-    ("SEG A", "the next bytes are at the real address A"),
+    ("SEG A", "the next bytes are at the real address A; what stands above the first SEG is at 200h and on"),
+    ("s: SEG A", "a segment with a name: s.loop is the name loop in it, where several segments have one"),
     ("SEG A AT V", "and its names count from the virtual address V: a program's pages"),
     ("DD W 3,-1,list", "data of a size, B, H or W; a name is always a word"),
     ("DD 'text', (H 1,2)*3", "characters; a group, three times"),
     ("RES n, ALI n", "n zeros; zeros up to a multiple of 2^n"),
     ("EQU n = 5, slot = 8+!R3", "names for texts"),
     ("START A, MEMORY n", "where a fresh desk starts, if not at 200h; the memory's length"),
-    ("SYSTEM BLOCK", "256 bytes; below it:"),
+    ("SYSTEM BLOCK", "256 bytes, where it stands: write SEG 0 above it, which is where a file of bytes has it; below it:"),
     ("ON SYSTEM CALL TO p", "the entry of cause 1"),
     ("ON ALARM 8 TO p", "the entry of an alarm, 8 to 15"),
     ("ON INTERRUPT 5 TO p", "the entry of a level; `, LEVEL 5` behind it is the kernel's level"),

@@ -5,7 +5,8 @@ use super::fields;
 use super::layout::{Layout, Position};
 use super::sizes;
 use super::syntax::{CauseKind, Datum, Entry, Kind, Statement};
-use crate::image::{self, Image, Program, SourceLine};
+use super::{blocks, columns};
+use crate::image::{self, Complaint, Image, Program, SourceLine};
 use crate::names::Names;
 use crate::notation::hexadecimal;
 use crate::table::Size;
@@ -69,7 +70,27 @@ pub fn assembled(
     image.names = names(layout);
     (image.lines, image.entries) = lines(source, statements, layout);
     image.programs = programs(statements, layout, &image.memory);
+    image.warnings = warnings(source, statements, layout, &image.memory, errors);
     Assembled { bytes, image }
+}
+
+/// What may be wrong with a source that is right.
+fn warnings(source: &str, statements: &[Statement], layout: &Layout, memory: &[u8], errors: &Errors) -> Vec<Complaint> {
+    if !errors.is_empty() {
+        return Vec::new();
+    }
+    let mut found = Errors::new(errors.file());
+    for (line, fault) in columns::check(source, statements, layout, memory) {
+        found.add(line, fault);
+    }
+    for (statement, position) in statements.iter().zip(&layout.positions) {
+        if let Kind::Map { pages, .. } = &statement.kind {
+            for (line, fault) in blocks::past_memory(pages, layout, position, memory) {
+                found.add(line, fault);
+            }
+        }
+    }
+    found.into_complaints("warnings")
 }
 
 fn extend(bytes: &mut Vec<u8>, length: u32, statement: &Statement, errors: &mut Errors) {
@@ -121,7 +142,7 @@ fn lines(source: &str, statements: &[Statement], layout: &Layout) -> (Vec<Source
 }
 
 /// The lines ON and PAGE of a block, each with its distance from the block's start.
-fn inner_lines(kind: &Kind, layout: &Layout, segment: usize) -> Vec<(u32, usize)> {
+pub fn inner_lines(kind: &Kind, layout: &Layout, segment: usize) -> Vec<(u32, usize)> {
     let number = |expression| layout.symbols.word(expression, segment).unwrap_or(0);
     match kind {
         Kind::SystemBlock(entries) => {
@@ -157,7 +178,7 @@ fn programs(statements: &[Statement], layout: &Layout, memory: &[u8]) -> Vec<Pro
             continue;
         }
         let number = programs.len() + 1;
-        let name = statement.labels.first().map_or(format!("program {number}"), |label| label.name.clone());
+        let name = statement.labels.first().map_or(format!("block{number}"), |label| label.name.clone());
         let word = |offset| view::word(memory, position.real.saturating_add(offset)).unwrap_or(0);
         let (map_base, map_length) = (word(fields::MAP), word(fields::LENGTH));
         let mut names = Names::none();

@@ -151,6 +151,9 @@ impl Symbols {
 
     /// What is said of an unknown name. What it may mean is looked for only in sources of a common size.
     fn no_name(&self, name: &str) -> String {
+        if name.strip_prefix(['R', 'r']).is_some_and(|rest| rest.parse::<u32>().is_ok()) {
+            return format!("there is no register '{}': registers are R0 to R15", shown(name));
+        }
         let few = self.labels.len() <= MOST_COMPARED;
         let labels = self.labels.iter().map(String::as_str).filter(|_| few);
         let meant = options::nearest(name, labels).filter(|_| name.len() > 2);

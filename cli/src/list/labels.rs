@@ -148,7 +148,7 @@ impl Labels {
     }
 }
 
-/// L20D for the kernel's code, D400 for its data, A_28 for places of program A.
+/// L20D for the kernel's code, D400 for its data, blockA_28 for places of program blockA.
 fn made(space: Space, programs: &[Program], address: u32, is_code: bool) -> String {
     match space {
         Space::Kernel if is_code => format!("L{address:X}"),

@@ -31,6 +31,14 @@ pub fn written(lines: &[Line]) -> String {
     lines.iter().map(|line| format!("{}\n", widths.line(line).trim_end())).collect()
 }
 
+/// The same without what stands before the bar.
+pub fn plain(lines: &[Line]) -> String {
+    let label = lines.iter().map(|line| line.label.len()).filter(|width| *width <= WIDEST_LABEL).max().unwrap_or(0) + 2;
+    let text = lines.iter().filter(|line| !line.remark.is_empty()).map(|line| line.text.len());
+    let text = text.filter(|width| *width <= WIDEST_TEXT).max().unwrap_or(0);
+    lines.iter().map(|line| format!("{}\n", source(line, label, text).trim_end())).collect()
+}
+
 struct Widths {
     real: usize,
     shown: usize,

@@ -8,6 +8,7 @@ mod follow;
 mod ground;
 mod labels;
 mod lines;
+mod pages;
 mod remarks;
 mod verb;
 mod write;
@@ -15,11 +16,15 @@ mod write;
 pub use verb::main;
 
 use crate::image::{Image, Program};
+use crate::names::Names;
 use crate::trial::{self, Trial};
 use crate::{asm, view};
 use follow::{Code, Space};
 use ground::Ground;
 use labels::{BlockName, Labels, Sources};
+use lines::Line;
+use pages::Pages;
+use std::borrow::Cow;
 use std::collections::BTreeMap;
 
 /// What stands at a place as a directive.
@@ -33,8 +38,49 @@ enum Block {
 /// The longest map that is written as one.
 const LONGEST_MAP: u32 = 32_768;
 
+/// What is found out of an image.
+struct Survey {
+    programs: Vec<Program>,
+    ground: Ground,
+    code: Code,
+    blocks: BTreeMap<u32, Block>,
+    labels: Labels,
+}
+
 /// The listing.
 pub fn listing(image: &Image, title: &str) -> String {
+    lines::written(&all_lines(&bare(image), title))
+}
+
+/// The listing without the columns of addresses and bytes.
+pub fn plain(image: &Image, title: &str) -> String {
+    lines::plain(&all_lines(&bare(image), title))
+}
+
+/// The names of real addresses and the programs, with theirs, as the listing of an image has them that brings none.
+pub fn made_names(image: &Image) -> (Names, Vec<Program>) {
+    let Survey { mut programs, mut labels, .. } = survey(&bare(image));
+    for (program, names) in programs.iter_mut().zip(&mut labels.programs) {
+        program.names = std::mem::take(names);
+    }
+    (labels.kernel, programs)
+}
+
+/// The image without the names that a listing has made.
+fn bare(image: &Image) -> Cow<'_, Image> {
+    match image.names_are_made {
+        true => Cow::Owned(Image { names: Names::none(), programs: Vec::new(), ..image.clone() }),
+        false => Cow::Borrowed(image),
+    }
+}
+
+fn all_lines(image: &Image, title: &str) -> Vec<Line> {
+    let Survey { programs, ground, code, blocks, labels } = &survey(image);
+    let pages = &Pages::new(image, programs, ground);
+    write::lines(&write::Parts { image, title, programs, ground, pages, code, blocks, labels })
+}
+
+fn survey(image: &Image) -> Survey {
     let mut ground = Ground::new(image);
     let mut blocks = BTreeMap::new();
     let places = blocks::kernel_places(&image.memory, image.system);
@@ -58,8 +104,7 @@ pub fn listing(image: &Image, title: &str) -> String {
     let named = block_names(&blocks, &programs);
     let sources = Sources { image, programs: &programs, ground: &ground, code: &code, blocks: &named };
     let labels = Labels::new(&sources);
-    let (programs, ground, code, blocks, labels) = (&programs, &ground, &code, &blocks, &labels);
-    write::written(&write::Parts { image, title, programs, ground, code, blocks, labels })
+    Survey { programs, ground, code, blocks, labels }
 }
 
 /// What a trial run tells that the image does not: of a source neither its programs, if it has some, nor the kernel's code.
@@ -137,14 +182,17 @@ fn take_blocks(image: &Image, programs: &[Program], ground: &mut Ground, blocks:
 fn block_names(blocks: &BTreeMap<u32, Block>, programs: &[Program]) -> BTreeMap<u32, BlockName> {
     let plain = |place: usize| -> String {
         let name = programs.get(place).map_or("", |program| program.name.as_str());
-        name.chars().filter(|c| c.is_ascii_alphanumeric()).collect()
+        name.chars().filter(|c| c.is_ascii_alphanumeric() || *c == '_').collect()
     };
     let mut names = BTreeMap::new();
     for (real, block) in blocks {
         let (name, is_control) = match *block {
             Block::System => continue,
-            Block::Control(place) => (format!("block{}", plain(place)), true),
-            Block::Map(place) => (format!("map{}", plain(place)), false),
+            Block::Control(place) => (plain(place), true),
+            Block::Map(place) => {
+                let name = plain(place);
+                (format!("map{}", name.strip_prefix("block").unwrap_or(&name)), false)
+            }
         };
         names.insert(*real, BlockName { name, is_control });
     }

@@ -1,13 +1,8 @@
-//! Remarks: those of the source, what the code runs into, and whose pages a frame is.
+//! Remarks: those of the source, and what the code runs into.
 
-use super::ground::Shown;
 use crate::decode::Trouble;
-use crate::image::{Image, Program};
-use crate::view;
+use crate::image::Image;
 use std::collections::BTreeMap;
-
-/// Pages of one map that are looked at.
-const MOST_PAGES: u32 = 32_768;
 
 /// The remarks of the source, by real address.
 pub fn of_source(image: &Image) -> BTreeMap<u32, String> {
@@ -35,26 +30,4 @@ pub fn of_trouble(trouble: &Trouble) -> String {
             format!("runs here, and operand {place} breaks the rules of its form (alarm 14)")
         }
     }
-}
-
-/// Who reaches each frame, and how.
-pub fn reaches(image: &Image, programs: &[Program]) -> BTreeMap<u32, Vec<String>> {
-    let mut found: BTreeMap<u32, Vec<String>> = BTreeMap::new();
-    for program in programs {
-        for page in 0..program.map_length.min(MOST_PAGES) {
-            let address = page * 512;
-            if let Ok((real, rights)) = view::real(&image.memory, program.map_base, program.map_length, address) {
-                let may = if rights.write { "read and write" } else { "read" };
-                let reach = format!("page {page} of {} ({may})", program.name);
-                found.entry(real / 512).or_default().push(reach);
-            }
-        }
-    }
-    found
-}
-
-/// What stands above a segment with virtual addresses.
-pub fn of_segment(shown: Shown, reaches: &BTreeMap<u32, Vec<String>>) -> String {
-    let who = reaches.get(&shown.frame).map_or(String::new(), |who| who.join("; "));
-    format!("frame {}: {who}", shown.frame)
 }

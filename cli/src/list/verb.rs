@@ -12,10 +12,13 @@ pub fn main(arguments: &[String]) -> u8 {
         Err(status) => return status,
     };
     let title = given.operands.first().map_or("", String::as_str);
-    let text = super::listing(&image, &options::shown(title));
+    let text = match given.has("--plain") {
+        true => super::plain(&image, &options::shown(title)),
+        false => super::listing(&image, &options::shown(title)),
+    };
     match given.value("--output") {
         None if output::out(&text) => 0,
         None => output::CANNOT_WRITE,
-        Some(target) => output::write(target, text.as_bytes()),
+        Some(target) => output::write(title, target, text.as_bytes()),
     }
 }

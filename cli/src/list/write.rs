@@ -4,7 +4,8 @@ use super::data;
 use super::follow::{Code, Space};
 use super::ground::Ground;
 use super::labels::Labels;
-use super::lines::{self, Line};
+use super::lines::Line;
+use super::pages::{Group, Pages};
 use super::{blocks, remarks, Block};
 use crate::asm::fields;
 use crate::decode::Decoded;
@@ -21,6 +22,7 @@ pub struct Parts<'a> {
     pub title: &'a str,
     pub programs: &'a [Program],
     pub ground: &'a Ground,
+    pub pages: &'a Pages,
     pub code: &'a Code,
     pub blocks: &'a BTreeMap<u32, Block>,
     pub labels: &'a Labels,
@@ -32,13 +34,13 @@ struct Writer<'a> {
     /// Where the segment in hand has got to, and what it adds to real addresses; none before the first.
     segment: Option<(u32, Option<u32>)>,
     remarks: BTreeMap<u32, String>,
-    reaches: BTreeMap<u32, Vec<String>>,
+    /// The group of frames whose heading was written last.
+    headed: Option<Group>,
 }
 
-pub fn written(parts: &Parts) -> String {
-    let reaches = remarks::reaches(parts.image, parts.programs);
+pub fn lines(parts: &Parts) -> Vec<Line> {
     let remarks = remarks::of_source(parts.image);
-    let mut writer = Writer { parts, lines: Vec::new(), segment: None, remarks, reaches };
+    let mut writer = Writer { parts, lines: Vec::new(), segment: None, remarks, headed: None };
     writer.heading();
     let end = parts.image.memory.len() as u32;
     let mut at = 0;
@@ -46,7 +48,7 @@ pub fn written(parts: &Parts) -> String {
         at = writer.item(at, end);
     }
     writer.ending();
-    lines::written(&writer.lines)
+    writer.lines
 }
 
 impl Writer<'_> {
@@ -99,21 +101,28 @@ impl Writer<'_> {
         self.data(at, until)
     }
 
-    /// Up to where the frames are shown with the same shift.
+    /// Up to where the frames stand under one heading.
     fn shown_alike(&self, at: u32, until: u32) -> u32 {
-        let shift = self.parts.ground.shift(at);
+        if let Some(group) = self.parts.pages.group(at) {
+            return 512 * (group.last + 1);
+        }
         let mut frame = at / 512 + 1;
-        while frame * 512 < until && self.parts.ground.shift(frame * 512) == shift {
+        while frame * 512 < until && self.parts.pages.group(frame * 512).is_none() {
             frame += 1;
         }
         frame * 512
+    }
+
+    /// Whether the frames at an address have a heading of their own, still to be written.
+    fn needs_heading(&self, at: u32) -> Option<Group> {
+        self.parts.pages.group(at).filter(|group| self.headed != Some(*group))
     }
 
     /// Lines from an address on, of so many bytes: with SEG if it must be, with labels and with the source's remark.
     fn put(&mut self, at: u32, length: usize, mut lines: Vec<Line>) -> u32 {
         let behind = at + length as u32;
         let shift = self.parts.ground.shift(at);
-        if self.segment != Some((at, shift)) {
+        if self.segment != Some((at, shift)) || self.needs_heading(at).is_some() {
             self.begin_segment(at, shift);
         }
         self.segment = Some((behind, shift));
@@ -141,8 +150,9 @@ impl Writer<'_> {
 
     fn begin_segment(&mut self, at: u32, shift: Option<u32>) {
         self.lines.push(Line::default());
-        if let Some(shown) = self.parts.ground.shown(at) {
-            self.say(remarks::of_segment(shown, &self.reaches));
+        if let Some(group) = self.needs_heading(at) {
+            self.headed = Some(group);
+            self.say(self.parts.pages.heading(group, self.parts.programs));
         }
         let at_virtual = shift.map_or(String::new(), |shift| format!(" AT {}", hexadecimal(at.wrapping_add(shift))));
         let text = format!("SEG {}{at_virtual}", hexadecimal(at));
@@ -240,6 +250,9 @@ impl Writer<'_> {
             (true, false) => return self.put(at, count, data::rows(at, &vec![0; count], None)),
             (false, false) if continued => return self.put(at, count, vec![data::reserved(at, count, true)]),
             (true, true) => self.put(at, 0, vec![data::reserved(at, count, false)]),
+            (false, _) if self.needs_heading(at).is_some() => {
+                return self.put(at, count, vec![data::reserved(at, count, true)])
+            }
             (false, _) => at,
         };
         at + count.max(1) as u32

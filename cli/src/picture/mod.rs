@@ -26,13 +26,7 @@ pub fn main(arguments: &[String]) -> u8 {
             true => 0,
             false => output::CANNOT_WRITE,
         },
-        Some(path) => match std::fs::write(path, picture) {
-            Ok(()) => 0,
-            Err(error) => {
-                output::err(&format!("{}: cannot be written: {error}\n", options::shown(path)));
-                output::CANNOT_WRITE
-            }
-        },
+        Some(path) => output::write(file, path, picture.as_bytes()),
     }
 }
 
