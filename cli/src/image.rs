@@ -117,16 +117,13 @@ fn is_text(bytes: &[u8]) -> bool {
 
 /// The image of bytes, with the names that a listing makes.
 fn named(file: &str, bytes: Vec<u8>, warnings: Vec<Complaint>) -> Result<Image, Vec<Complaint>> {
-    let wrong = match bytes.len() {
-        0 => "gives no bytes".to_string(),
-        length if length > LARGEST => format!("has more than the {LARGEST} bytes of the largest memory"),
-        _ => {
-            let mut image = Image { warnings, names_are_made: true, ..of_bytes(bytes) };
-            image.make_names();
-            return Ok(image);
-        }
-    };
-    Err(vec![complaint(file, 0, 0, wrong)])
+    if bytes.len() > LARGEST {
+        let sentence = format!("has more than the {LARGEST} bytes of the largest memory");
+        return Err(vec![complaint(file, 0, 0, sentence)]);
+    }
+    let mut image = Image { warnings, names_are_made: true, ..of_bytes(bytes) };
+    image.make_names();
+    Ok(image)
 }
 
 impl Image {

@@ -1,6 +1,7 @@
 //! Writing to standard output and standard error without a panic where nobody reads.
 
 use crate::options;
+use std::cell::RefCell;
 use std::fs::Metadata;
 use std::io::{self, Write};
 use std::os::unix::fs::MetadataExt;
@@ -11,8 +12,18 @@ pub fn out(text: &str) -> bool {
     stdout.write_all(text.as_bytes()).and_then(|()| stdout.flush()).is_ok()
 }
 
+thread_local! {
+    static SAID: RefCell<String> = const { RefCell::new(String::new()) };
+}
+
+/// What was written to standard error so far: for `--json`, which says it once more.
+pub fn said() -> String {
+    SAID.with_borrow(String::clone)
+}
+
 /// Writes to standard error.
 pub fn err(text: &str) {
+    SAID.with_borrow_mut(|said| said.push_str(text));
     let _ = io::stderr().lock().write_all(text.as_bytes());
 }
 

@@ -84,13 +84,74 @@ fn places_of_a_file_of_bytes_are_given() {
     assert!(text.contains("START L300"), "{text}");
 }
 
+/// Whatever it is called by, the file that is read is not written over.
+#[test]
+fn the_input_is_never_written_over() {
+    let (source, link, hard) = (scratch("own.mi"), scratch("link.mi"), scratch("hard.mi"));
+    let text = "        SEG 200h\n        HALT\n";
+    std::fs::write(&source, text).expect("a file");
+    std::os::unix::fs::symlink(&source, &link).expect("a link");
+    std::fs::hard_link(&source, &hard).expect("a link");
+    let folder = source.parent().expect("a folder");
+    let other = folder.join(".").join(source.file_name().expect("a name"));
+    for target in [&source, &link, &hard, &other] {
+        for verb in ["asm", "list", "picture"] {
+            let output = desk(&[verb, path(&source), "-o", path(target)]);
+            let said = String::from_utf8_lossy(&output.stderr).into_owned();
+            assert_eq!(output.status.code(), Some(64), "{verb} {}: {said}", target.display());
+            assert!(said.contains("this is the file that is read"), "{said}");
+            assert_eq!(std::fs::read_to_string(&source).expect("the source"), text);
+        }
+    }
+    for file in [source, link, hard] {
+        let _ = std::fs::remove_file(file);
+    }
+}
+
+/// What a name without a known ending may be, an empty file, a start among zeros.
+#[test]
+fn files_that_are_hardly_meant_so() {
+    let (text, bytes, empty, none) = (scratch("source.txt"), scratch("text.bin"), scratch("empty"), scratch("none.mi"));
+    std::fs::write(&text, "        HALT\n").expect("a file");
+    std::fs::write(&bytes, "        HALT\n").expect("a file");
+    std::fs::write(&empty, "").expect("a file");
+    std::fs::write(&none, "").expect("a file");
+    let cases: [(&[&str], i32, &str); 5] = [
+        (
+            &["run", path(&text)],
+            65,
+            "this is text, and its name is that of a file of bytes: the name of a source ends in .mi",
+        ),
+        (&["list", path(&bytes)], 0, "text.bin: warning: this is text, and is taken as bytes"),
+        (&["run", path(&empty)], 65, "empty: is empty"),
+        (&["run", path(&none)], 65, "none.mi: is empty"),
+        (&["list", "examples/sum.mi", "--start", "400h"], 0, "warning: at the start, 400h, are only zeros"),
+    ];
+    for (arguments, status, sentence) in cases {
+        let output = desk(arguments);
+        let said = String::from_utf8_lossy(&output.stderr).into_owned();
+        assert_eq!(output.status.code(), Some(status), "{arguments:?}: {said}");
+        assert!(said.contains(sentence), "{arguments:?}: {said}");
+    }
+    for file in [text, bytes, empty, none] {
+        let _ = std::fs::remove_file(file);
+    }
+}
+
+#[test]
+fn a_plain_listing_has_no_columns() {
+    let text = String::from_utf8(desk(&["list", "examples/sum.mi", "--plain"]).stdout).expect("text");
+    assert!(text.contains("\nloop: ADD H !R1+,R0"), "{text}");
+    assert!(!text.contains('|'), "{text}");
+}
+
 /// The exit status, and a part of the sentence.
 #[test]
 fn what_goes_wrong_has_a_sentence_and_a_status() {
     let (bad, text) = (scratch("bad.mi"), scratch("text.mi"));
     std::fs::write(&bad, "  JUMP nowhere\n  MOVE W R1\n").expect("a file");
     std::fs::write(&text, b"HALT\n\xFF\xFE\n").expect("a file");
-    let cases: [(&[&str], i32, &str); 9] = [
+    let cases: [(&[&str], i32, &str); 11] = [
         (&["asm"], 64, "SOURCE"),
         (&["asm", "examples/sum.mi"], 64, "-o FILE"),
         (&["asm", "a", "b", "-o", "c"], 64, "too many"),
@@ -98,6 +159,8 @@ fn what_goes_wrong_has_a_sentence_and_a_status() {
         (&["asm", "examples/sum.mi", "-o", "no/such/folder"], 74, "no/such/folder: cannot be written"),
         (&["asm", path(&bad), "-o", "c"], 65, "bad.mi:1:8: there is no name 'nowhere'"),
         (&["asm", path(&text), "-o", "c"], 65, "text.mi:2: this line is no text"),
+        (&["asm", "no/such.mi", "-o", "c"], 66, "No such file or directory\n"),
+        (&["asm", "examples/sum.mi", "--output="], 64, "needs the name of a file"),
         (&["list", "no/such.bin"], 66, "no/such.bin: cannot be read"),
         (&["list", path(&bad)], 65, "bad.mi:2:3: MOVE W has 2 operands, found 1"),
     ];

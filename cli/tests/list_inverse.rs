@@ -7,7 +7,7 @@ use desk::asm;
 use desk::decode::{decode, Fields};
 use desk::forms::{self, FORMS};
 use desk::image::{of_bytes, Image};
-use desk::list::listing;
+use desk::list::{listing, plain};
 use desk::names::Names;
 use desk::notation::written;
 use desk::table::{self, Operand};
@@ -18,6 +18,8 @@ fn comes_back(image: &Image, title: &str) {
     let back = assembled(title, &text);
     assert!(back.memory == image.memory, "{title}: the memory differs\n{text}");
     assert_eq!(back.start, image.start, "{title}");
+    assert!(back.warnings.is_empty(), "{title}: {}\n{text}", back.warnings[0]);
+    assert!(assembled(title, &plain(image, title)).memory == image.memory, "{title}: without columns");
     let again = listing(&back, title);
     let memory = assembled(title, &again).memory;
     assert!(memory == image.memory, "{title}: the listing's listing differs\n{again}");
@@ -215,7 +217,7 @@ fn a_map_that_is_a_control_block_too_comes_back() {
         again: MOVE W 418h,R0\nRESUME 400h\nSEG 400h\nm: MAP\nPAGE 0: FRAME 3, READ\nPAGE 7: ABSENT\n\
         SEG 600h AT 0\nSYSTEM CALL I 1\nMEMORY 800h";
     let image = of_bytes(assembled("source", source).memory);
-    assert!(listing(&image, "both").contains("program B: control block at 400h"));
+    assert!(listing(&image, "both").contains("program blockB: control block at 400h"));
     comes_back(&image, "both");
 }
 

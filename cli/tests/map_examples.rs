@@ -37,8 +37,8 @@ fn what_is_wrong_is_said() {
     let (out, _) = said(&["map", &file]);
     for words in [
         "0       000h to 1FFh    3      600h to 7FFh    read, run         also its page 8",
-        "CAREFUL: it may write the map of A",
-        "CAREFUL: it may write the system block and the control block of A",
+        "CAREFUL: it may write the map of blockA",
+        "CAREFUL: it may write the system block and the control block of blockA",
         "damaged: bits 29 to 24 must be 0, the entry at 40Ch is 85000001h: alarm 10",
         "damaged: frame 8 is past the memory's 8 (entry at 410h): alarm 10",
         "5 to 6  A00h to DFFh    -      -               nothing           absent: alarm 9",

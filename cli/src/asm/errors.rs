@@ -28,6 +28,14 @@ impl Errors {
         Errors { file: file.to_string(), complaints: Vec::new(), more: 0 }
     }
 
+    pub fn of(file: &str, faults: Vec<(usize, Fault)>) -> Errors {
+        let mut errors = Errors::new(file);
+        for (line, fault) in faults {
+            errors.add(line, fault);
+        }
+        errors
+    }
+
     pub fn file(&self) -> &str {
         &self.file
     }

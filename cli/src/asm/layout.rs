@@ -113,6 +113,7 @@ impl Builder<'_> {
                 real: self.real,
                 is_virtual: self.shift.is_some(),
                 line: label.line,
+                column: label.column,
                 map_length: sizes::map_length(&statement.kind, &self.symbols, self.segment),
             };
             if is_segment {

@@ -38,6 +38,9 @@ pub fn assemble(file: &str, source: &str) -> Result<Assembled, Vec<Complaint>> {
         result::check_overlaps(&statements, &layout, &mut errors);
     }
     let bytes = emit::emit(&statements, &layout, &mut errors);
+    for (line, fault) in layout.symbols.given_twice() {
+        errors.add(line, fault);
+    }
     let assembled = result::assembled(source, &statements, &layout, bytes, &mut errors);
     match errors.is_empty() {
         true => Ok(assembled),

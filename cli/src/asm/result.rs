@@ -16,6 +16,8 @@ pub struct Assembled {
     /// From address 0 up to the last byte that the source gives.
     pub bytes: Vec<u8>,
     pub image: Image,
+    /// Warnings of pages whose frame is past the memory as the source has it; a desk may be given a longer one.
+    pub past_memory: Vec<Complaint>,
 }
 
 /// No two statements give one byte.
@@ -70,27 +72,31 @@ pub fn assembled(
     image.names = names(layout);
     (image.lines, image.entries) = lines(source, statements, layout);
     image.programs = programs(statements, layout, &image.memory);
-    image.warnings = warnings(source, statements, layout, &image.memory, errors);
-    Assembled { bytes, image }
+    image.warnings = column_warnings(source, statements, layout, &image.memory, errors);
+    let past_memory = frame_warnings(statements, layout, &image.memory, errors);
+    Assembled { bytes, image, past_memory }
 }
 
-/// What may be wrong with a source that is right.
-fn warnings(source: &str, statements: &[Statement], layout: &Layout, memory: &[u8], errors: &Errors) -> Vec<Complaint> {
-    if !errors.is_empty() {
-        return Vec::new();
-    }
-    let mut found = Errors::new(errors.file());
-    for (line, fault) in columns::check(source, statements, layout, memory) {
-        found.add(line, fault);
-    }
-    for (statement, position) in statements.iter().zip(&layout.positions) {
-        if let Kind::Map { pages, .. } = &statement.kind {
-            for (line, fault) in blocks::past_memory(pages, layout, position, memory) {
-                found.add(line, fault);
-            }
-        }
-    }
-    found.into_complaints("warnings")
+/// What may be wrong with a source that is right: where the columns of a listing disagree with it.
+fn column_warnings(
+    source: &str,
+    statements: &[Statement],
+    layout: &Layout,
+    memory: &[u8],
+    errors: &Errors,
+) -> Vec<Complaint> {
+    let faults = if errors.is_empty() { columns::check(source, statements, layout, memory) } else { Vec::new() };
+    Errors::of(errors.file(), faults).into_complaints("warnings")
+}
+
+/// Likewise, where pages are frames past the memory.
+fn frame_warnings(statements: &[Statement], layout: &Layout, memory: &[u8], errors: &Errors) -> Vec<Complaint> {
+    let past = |(statement, position): (&Statement, &Position)| match &statement.kind {
+        Kind::Map { pages, .. } if errors.is_empty() => blocks::past_memory(pages, layout, position, memory),
+        _ => Vec::new(),
+    };
+    let faults = statements.iter().zip(&layout.positions).flat_map(past).collect();
+    Errors::of(errors.file(), faults).into_complaints("warnings")
 }
 
 fn extend(bytes: &mut Vec<u8>, length: u32, statement: &Statement, errors: &mut Errors) {

@@ -4,6 +4,7 @@ use super::errors::{fault, Fault};
 use super::lexer::shown;
 use super::syntax::{Expression, Item};
 use crate::{lists, notation, options};
+use std::cell::RefCell;
 use std::collections::{BTreeMap, BTreeSet};
 
 /// Labels that an unknown name is compared with.
@@ -18,6 +19,8 @@ pub struct Place {
     pub real: u32,
     pub is_virtual: bool,
     pub line: usize,
+    /// Of the label.
+    pub column: usize,
     /// The length of the map that stands there, if one does.
     pub map_length: Option<u32>,
 }
@@ -42,6 +45,8 @@ pub struct Symbols {
     segments: BTreeMap<String, Vec<usize>>,
     /// The name of each segment, as it is told in a message.
     titles: BTreeMap<usize, String>,
+    /// Names that were used where it is not known which of several places they mean.
+    ambiguous: RefCell<BTreeSet<String>>,
 }
 
 impl Symbols {
@@ -83,8 +88,26 @@ impl Symbols {
         }
         match places.as_slice() {
             [place] => Ok(Some(*place)),
-            _ => fault(column, format!("'{}' is in several segments: {}", shown(name), self.choices(name, places))),
+            _ => {
+                self.ambiguous.borrow_mut().insert(name.to_string());
+                fault(column, format!("'{}' is in several segments: {}", shown(name), self.choices(name, places)))
+            }
         }
+    }
+
+    /// A fault at each further definition of the names that were used and not told apart.
+    pub fn given_twice(&self) -> Vec<(usize, Fault)> {
+        let mut found = Vec::new();
+        for name in self.ambiguous.borrow().iter() {
+            let places = self.places.get(name).map_or(&[][..], Vec::as_slice);
+            let Some((first, further)) = places.split_first() else { continue };
+            for place in further {
+                let (name, before) = (shown(name), first.line);
+                let sentence = format!("'{name}' is given twice: line {before} has it already, in another segment");
+                found.push((place.line, Fault { column: place.column, sentence }));
+            }
+        }
+        found
     }
 
     fn choices(&self, name: &str, places: &[Place]) -> String {

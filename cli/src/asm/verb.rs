@@ -34,5 +34,6 @@ fn bytes(source: &str) -> Result<(Vec<u8>, Vec<Complaint>), Vec<Complaint>> {
         return Ok((hex::bytes(source, &image::read(path)?)?, Vec::new()));
     }
     let assembled = super::assemble(source, &image::read_text(path)?)?;
-    Ok((assembled.bytes, assembled.image.warnings))
+    let warnings = assembled.image.warnings.into_iter().chain(assembled.past_memory).collect();
+    Ok((assembled.bytes, warnings))
 }

@@ -67,7 +67,10 @@ impl Writer<'_> {
         for program in self.parts.programs {
             let (name, block) = (&program.name, hexadecimal(program.control_block));
             let (base, pages) = (hexadecimal(program.map_base), program.map_length);
-            self.say(format!("program {name}: control block at {block}, map at {base} with {pages} pages"));
+            self.say(format!(
+                "program {name}: control block at {block}, map at {base} with {pages} page{}",
+                if pages == 1 { "" } else { "s" }
+            ));
         }
     }
 
