@@ -18,17 +18,27 @@ pub fn image(verb: &str, given: &Given) -> Result<Image, u8> {
     let mut image = read(file)?;
     output::warn(&image.warnings);
     apply(&mut image, given).map_err(|sentence| options::usage(verb, &sentence))?;
-    if given.has("--start") && only_zeros(&image) {
-        output::err(&format!("desk {verb}: warning: at the start, {:X}h, are only zeros, which are HALTs\n", image.start));
+    if let Some(words) = doubtful_start(&image).filter(|_| given.has("--start")) {
+        output::err(&format!("desk {verb}: warning: {words}\n"));
     }
-    image.make_names();
+    if ["--memory", "--system", "--control", "--start"].iter().any(|option| given.has(option)) {
+        image.make_names();
+    }
     Ok(image)
 }
 
-/// Whether nothing but zeros, or nothing at all, stands where the desk starts.
-fn only_zeros(image: &Image) -> bool {
-    let from = image.memory.get(image.start as usize..).unwrap_or(&[]);
-    from.iter().take(16).all(|byte| *byte == 0)
+/// What is said of a start where no program can be.
+fn doubtful_start(image: &Image) -> Option<String> {
+    let start = image.start;
+    match image.memory.get(start as usize..) {
+        None | Some([]) => {
+            Some(format!("the start, {start:X}h, is past the memory of {:X}h bytes", image.memory.len()))
+        }
+        Some(from) if from.iter().take(16).all(|byte| *byte == 0) => {
+            Some(format!("at the start, {start:X}h, are only zeros, which are HALTs"))
+        }
+        Some(_) => None,
+    }
 }
 
 /// A fresh desk over the image of the file; else the exit status, after a sentence.
