@@ -116,7 +116,7 @@ fn files_that_are_hardly_meant_so() {
     std::fs::write(&bytes, "        HALT\n").expect("a file");
     std::fs::write(&empty, "").expect("a file");
     std::fs::write(&none, "").expect("a file");
-    let cases: [(&[&str], i32, &str); 5] = [
+    let cases: [(&[&str], i32, &str); 6] = [
         (
             &["run", path(&text)],
             65,
@@ -125,7 +125,8 @@ fn files_that_are_hardly_meant_so() {
         (&["list", path(&bytes)], 0, "text.bin: warning: this is text, and is taken as bytes"),
         (&["run", path(&empty)], 65, "empty: is empty"),
         (&["run", path(&none)], 65, "none.mi: is empty"),
-        (&["list", "examples/sum.mi", "--start", "400h"], 0, "warning: at the start, 400h, are only zeros"),
+        (&["list", "examples/sum.mi", "--start", "300h"], 0, "warning: at the start, 300h, are only zeros"),
+        (&["list", "examples/sum.mi", "--start", "400h"], 0, "warning: the start, 400h, is past the memory"),
     ];
     for (arguments, status, sentence) in cases {
         let output = desk(arguments);
