@@ -1,0 +1,77 @@
+//! From a file and options to a desk: what `run`, `debug`, `map` and `picture` share.
+
+use crate::image::{self, Image};
+use crate::machine::Machine;
+use crate::options::{self, Given};
+use crate::output;
+use midesk::Refusal;
+use std::path::Path;
+
+/// The exit status of a refusal: 32 + its number.
+pub fn refusal_status(refusal: Refusal) -> u8 {
+    32 + refusal.number() as u8
+}
+
+/// The image of the file, with memory, blocks and start as the options say; else the exit status, after a sentence.
+pub fn image(verb: &str, given: &Given) -> Result<Image, u8> {
+    let file = given.operands.first().map_or("", String::as_str);
+    let mut image = read(file)?;
+    output::warn(&image.warnings);
+    apply(&mut image, given).map_err(|sentence| options::usage(verb, &sentence))?;
+    if let Some(words) = doubtful_start(&image).filter(|_| given.has("--start")) {
+        output::err(&format!("desk {verb}: warning: {words}\n"));
+    }
+    if ["--memory", "--system", "--control", "--start"].iter().any(|option| given.has(option)) {
+        image.make_names();
+    }
+    Ok(image)
+}
+
+/// What is said of a start where no program can be.
+fn doubtful_start(image: &Image) -> Option<String> {
+    let start = image.start;
+    match image.memory.get(start as usize..) {
+        None | Some([]) => {
+            Some(format!("the start, {start:X}h, is past the memory of {:X}h bytes", image.memory.len()))
+        }
+        Some(from) if from.iter().take(16).all(|byte| *byte == 0) => {
+            Some(format!("at the start, {start:X}h, are only zeros, which are HALTs"))
+        }
+        Some(_) => None,
+    }
+}
+
+/// A fresh desk over the image of the file; else the exit status, after a sentence.
+pub fn machine(verb: &str, given: &Given) -> Result<Machine, u8> {
+    let image = image(verb, given)?;
+    let (length, system, control) = (image.memory.len(), image.system, image.control);
+    Machine::fresh(image).map_err(|refusal| {
+        let what = match refusal {
+            Refusal::Length => format!("it has {length} bytes; allowed are multiples of 512, up to 16777216"),
+            Refusal::SystemBlock => format!("it is at {system:X}h with 256 bytes, the memory has {length:X}h"),
+            _ => format!("it is at {control:X}h with 80 bytes, the memory has {length:X}h"),
+        };
+        output::err(&format!("desk {verb}: refusal {}: {refusal} ({what})\n", refusal.number()));
+        refusal_status(refusal)
+    })
+}
+
+fn read(file: &str) -> Result<Image, u8> {
+    image::load(Path::new(file)).map_err(|complaints| output::complain(&complaints))
+}
+
+fn apply(image: &mut Image, given: &Given) -> Result<(), String> {
+    let names = image.names.clone();
+    if let Some(bytes) = given.count("--memory")? {
+        let length = usize::try_from(bytes).ok().filter(|length| *length <= image::LARGEST);
+        let length = length.ok_or_else(|| format!("--memory can be at most {}", image::LARGEST))?;
+        if length < image.memory.len() {
+            return Err(format!("--memory {length} is less than the {} bytes of the file", image.memory.len()));
+        }
+        image.memory.resize(length, 0);
+    }
+    image.system = given.address("--system", &names)?.unwrap_or(image.system);
+    image.control = given.address("--control", &names)?.unwrap_or(image.control);
+    image.start = given.address("--start", &names)?.unwrap_or(image.start);
+    Ok(())
+}

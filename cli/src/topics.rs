@@ -1,0 +1,107 @@
+//! What the help says of all verbs: files, numbers, stops, the exit status.
+
+use crate::verbs::Text::{self, Say, Show, Table};
+
+/// A part of the help that is of no single verb.
+#[derive(Debug)]
+pub struct Topic {
+    /// As in `desk help NAME`.
+    pub name: &'static str,
+    pub title: &'static str,
+    /// Whether `desk help` shows it too; the man page has all.
+    pub in_overview: bool,
+    pub text: &'static [Text],
+}
+
+/// The topic of a name.
+pub fn topic(name: &str) -> Option<&'static Topic> {
+    TOPICS.iter().find(|topic| topic.name == name)
+}
+
+pub const TOPICS: &[Topic] = &[
+    Topic {
+        name: "files",
+        title: "FILES",
+        in_overview: true,
+        text: &[
+            Say("FILE is told by its ending:"),
+            Table(&[
+                (".mi", "a source in MI's notation; `desk help asm` tells of it"),
+                (".hex", "commented hexadecimal, as tools/bytes reads it"),
+                ("others", "the bytes themselves, from real address 0 on"),
+            ]),
+            Say("Where the file does not say otherwise, the system block is at 0, the control block at 100h, and the desk starts at 200h in kernel mode, as under `trace`. docs/MACHINE.md is the machine's manual."),
+        ],
+    },
+    Topic {
+        name: "numbers",
+        title: "NUMBERS",
+        in_overview: true,
+        text: &[Say("A number is decimal, or hexadecimal with h at its end: 410h, also 0x410 and H'410'. In what `desk` writes, a number that ends in h is hexadecimal, a row of eight digits too, and all before the bar of a listing but the number before `*`; any other is decimal.")],
+    },
+    Topic {
+        name: "stops",
+        title: "STOPS, CAUSES, REFUSALS",
+        in_overview: false,
+        text: &[
+            Say("In user mode an alarm is the cause of a kernel entry; its argument stands in the control block. In kernel mode an alarm stops the desk."),
+            Table(STOPS),
+            Say("The library refuses, with desk and memory as they were:"),
+            Table(REFUSALS),
+        ],
+    },
+    Topic { name: "status", title: "EXIT STATUS", in_overview: true, text: &[Table(STATUSES)] },
+    Topic {
+        name: "examples",
+        title: "EXAMPLES",
+        in_overview: true,
+        text: &[Show(
+            "desk run examples/minimum.mi\n\
+             desk run examples/user_mode.mi --trace\n\
+             desk run examples/user_mode.mi --until entry:11 --dump 800h,4\n\
+             desk debug examples/isolation.mi\n\
+             desk map examples/isolation.mi\n\
+             desk picture examples/isolation.mi -o isolation.svg",
+        )],
+    },
+];
+
+/// Stops, alarms and causes, as the manual has them.
+const STOPS: &[(&str, &str)] = &[
+    ("0", "stop: HALT"),
+    ("1", "cause: a system call; argument: its value"),
+    ("8", "alarm: the page is past the map, or in kernel mode the byte past the memory; argument of 8 to 11: the byte's address"),
+    ("9", "alarm: the page's map entry is absent"),
+    ("10", "alarm: bits 29 to 24 of the map entry are not 0, or its frame is past the memory"),
+    ("11", "alarm: a write to a page whose map entry has no right to write"),
+    ("12", "alarm: an unknown command byte; argument: the byte"),
+    ("13", "alarm: HALT or RESUME in user mode, a system call in kernel mode; argument: the byte"),
+    ("14", "alarm: an operand breaks a rule of its form, or RESUME's block cannot be used; argument: the operand's place, from 1"),
+    ("15", "alarm: DIV by zero; argument: 0"),
+    ("16", "stop: a kernel entry finds no valid kernel status in the system block"),
+    ("17 to 31", "cause: an interrupt of level 1 to 15; argument: the level"),
+];
+
+const REFUSALS: &[(&str, &str)] = &[
+    ("1", "the memory length is not a multiple of 512 from 512 to 16,777,216"),
+    ("2", "the system block is not at a multiple of 4, or not in the memory with its 256 bytes"),
+    ("3", "the control block is not at a multiple of 4, or not in the memory with its 80 bytes"),
+    ("4", "the map is not at a multiple of 4, or not in the memory"),
+    ("5", "the status has an undefined bit, or level 0 is pending"),
+    ("6", "a requested level is 0 or above 15"),
+    ("7", "the desk has stopped"),
+];
+
+/// What the exit status tells.
+const STATUSES: &[(&str, &str)] = &[
+    ("0", "the program ended with HALT; of other verbs than run: it is done"),
+    ("8, 12 to 16", "run: the program ended with the stop of that number"),
+    ("32 + number", "the library refused: 33 to 39 for refusals 1 to 7"),
+    ("64", "the arguments do not fit"),
+    ("65", "a file's content is not usable; messages say where"),
+    ("66", "a file cannot be read"),
+    ("70", "the script `desk`: the library or the command cannot be built"),
+    ("74", "the output cannot be written"),
+    ("124", "run: the step limit is reached"),
+    ("125", "run: what --until names is reached"),
+];

@@ -1,0 +1,188 @@
+//! Words for numbers: causes of kernel entries, alarms, stops, refusals, flags. One row for each.
+
+use crate::notation;
+use crate::table;
+
+/// What a number says as an alarm: in user mode, and in kernel mode.
+const ALARMS: &[(u32, &str, &str)] = &[
+    (8, "an address past the map", "an address past the memory"),
+    (9, "an absent page", "an absent page"),
+    (10, "a damaged map entry", "a damaged map entry"),
+    (11, "a write to a page without the right to write", "a write to a page without the right to write"),
+    (12, "an unknown command byte", "an unknown command byte"),
+    (13, "a command that only kernel mode has", "a system call in kernel mode"),
+    (14, "an operand that breaks a rule", "an operand that breaks a rule"),
+    (15, "DIV by zero", "DIV by zero"),
+];
+
+/// A cause of a kernel entry, or an alarm in user mode.
+pub fn cause(number: u32) -> String {
+    match number {
+        1 => "a system call".to_string(),
+        17..=31 => format!("an interrupt of level {}", number - 16),
+        _ => alarm(number, false),
+    }
+}
+
+/// An alarm.
+pub fn alarm(number: u32, kernel: bool) -> String {
+    let row = ALARMS.iter().find(|(known, ..)| *known == number);
+    match row {
+        Some((_, _, words)) if kernel => words.to_string(),
+        Some((_, words, _)) => words.to_string(),
+        None => format!("number {number}, which this version has no words for"),
+    }
+}
+
+/// A stop.
+pub fn stop(number: u32) -> String {
+    match number {
+        0 => "HALT".to_string(),
+        16 => "a kernel entry found no valid kernel status in the system block".to_string(),
+        _ => alarm(number, true),
+    }
+}
+
+/// A cause with its argument: `a system call, argument 15h (21)`.
+pub fn cause_with(number: u32, argument: u32) -> String {
+    argued(cause(number), number, argument)
+}
+
+/// An alarm in kernel mode with its argument.
+pub fn alarm_with(number: u32, argument: u32) -> String {
+    match number {
+        8 => format!("address {} is past the memory", notation::hexadecimal(argument)),
+        13 => alarm(13, true),
+        _ => argued(alarm(number, true), number, argument),
+    }
+}
+
+fn argued(words: String, number: u32, argument: u32) -> String {
+    match number {
+        1 => format!("{words}, argument {}", both(argument)),
+        8..=11 => format!("{words}, address {} (page {})", notation::hexadecimal(argument), argument / 512),
+        12 => format!("{words}, {}", byte(argument)),
+        13 => format!("{words}, {}", name(argument)),
+        14 => format!("{words}, operand {argument}"),
+        _ => words,
+    }
+}
+
+/// The command of a byte, by its name.
+pub fn name(byte_: u32) -> String {
+    let known = u8::try_from(byte_).ok().and_then(table::command);
+    known.map_or_else(|| byte(byte_), |command| command.name.to_string())
+}
+
+/// A byte: `FFh`.
+pub fn byte(byte: u32) -> String {
+    format!("{byte:02X}h")
+}
+
+/// A number both ways where they differ: `7`, `15h (21)`, `FFFFFFFFh (-1)`.
+pub fn both(number: u32) -> String {
+    match number {
+        0..=9 => number.to_string(),
+        0x8000_0000.. => format!("{number:X}h ({})", number as i32),
+        _ => format!("{number:X}h ({number})"),
+    }
+}
+
+/// The flags as letters: `N-V-`.
+pub fn flags(status: u32) -> String {
+    [(8, 'N'), (4, 'Z'), (2, 'V'), (1, 'C')]
+        .map(|(bit, letter)| if status & bit != 0 { letter } else { '-' })
+        .iter()
+        .collect()
+}
+
+/// The mode of a status word.
+pub fn mode(kernel: bool) -> &'static str {
+    match kernel {
+        true => "kernel",
+        false => "user",
+    }
+}
+
+/// A count with commas: `1,000,000`.
+pub fn count(number: u64) -> String {
+    let digits = number.to_string();
+    let mut text = String::new();
+    for (place, digit) in digits.chars().enumerate() {
+        if place > 0 && (digits.len() - place).is_multiple_of(3) {
+            text.push(',');
+        }
+        text.push(digit);
+    }
+    text
+}
+
+/// Columns of a line of words.
+const WIDTH: usize = 100;
+
+/// Words in lines that fit, the first with its own indent.
+pub fn folded(words: &str, first: usize, others: usize) -> Vec<String> {
+    wrapped(words, WIDTH, first, others)
+}
+
+/// Words in lines of a width.
+pub fn wrapped(words: &str, width: usize, first: usize, others: usize) -> Vec<String> {
+    let mut lines = Vec::new();
+    let mut line = " ".repeat(first);
+    let mut empty = true;
+    for word in words.split(' ') {
+        if !empty && line.chars().count() + 1 + word.chars().count() > width {
+            lines.push(std::mem::replace(&mut line, " ".repeat(others)));
+            empty = true;
+        }
+        if !empty {
+            line.push(' ');
+        }
+        line.push_str(word);
+        empty = false;
+    }
+    lines.push(line);
+    lines
+}
+
+/// `1 step`, `39 steps`.
+pub fn steps(number: u64) -> String {
+    match number {
+        1 => "1 step".to_string(),
+        _ => format!("{} steps", count(number)),
+    }
+}
+
+#[cfg(test)]
+mod tests {
+    use super::*;
+
+    #[test]
+    fn numbers_in_words() {
+        assert_eq!(count(0), "0");
+        assert_eq!(count(1_234_567), "1,234,567");
+        assert_eq!(steps(1), "1 step");
+        assert_eq!(both(21), "15h (21)");
+        assert_eq!(both(u32::MAX), "FFFFFFFFh (-1)");
+        assert_eq!(flags(0x8000_000A), "N-V-");
+    }
+
+    #[test]
+    fn lines_are_folded() {
+        let words = "word ".repeat(30);
+        let lines = folded(words.trim(), 2, 4);
+        assert!(lines.len() == 2 && lines.iter().all(|line| line.len() <= WIDTH));
+        assert!(lines[0].starts_with("  word") && lines[1].starts_with("    word"));
+    }
+
+    #[test]
+    fn every_cause_and_stop_has_words() {
+        for number in (8..=15).chain(17..=31).chain([1]) {
+            assert!(!cause_with(number, 3).contains("no words"), "{number}");
+        }
+        for number in [0, 8, 12, 13, 14, 15, 16] {
+            assert!(!stop(number).contains("no words"), "{number}");
+        }
+        assert!(cause(7).contains("no words"));
+    }
+}

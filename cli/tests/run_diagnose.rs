@@ -1,0 +1,161 @@
+//! What stopped a desk is found: the cause and its argument, and where to look.
+
+mod support;
+
+use desk::atlas;
+use desk::diagnose::{self, Finding};
+use desk::machine::Machine;
+use midesk::{numbers, Desk, Event, Mark};
+use support::{images, said, written, Random};
+
+/// An image of two frames with this code at 200h, run to its stop.
+fn stopped(code: &[u8]) -> (Desk, Vec<u8>) {
+    let mut memory = vec![0; 1024];
+    memory[512..512 + code.len()].copy_from_slice(code);
+    let mut desk = Desk::fresh(&memory, 0, 256, 512).expect("a desk");
+    desk.run(&mut memory, 100).expect("a run");
+    (desk, memory)
+}
+
+fn found(code: &[u8]) -> Option<Finding> {
+    let (desk, memory) = stopped(code);
+    diagnose::of(&desk, &memory)
+}
+
+#[test]
+fn alarms_in_kernel_mode() {
+    let cases: [(&[u8], Finding); 10] = [
+        (&[0x10, 0, 0, 0, 0, 4, 0, 2, 0, 0, 0, 0, 0], Finding::Cause(8, 0x400)),
+        (&[0x12, 0, 0, 0, 0, 3, 0xFE, 2, 0, 0, 0, 0, 0], Finding::Cause(8, 0x400)),
+        (&[0x12, 1, 0, 0, 0, 0, 0, 0, 0, 0, 0, 3, 0xFD], Finding::Cause(8, 0x400)),
+        (&[0xFF], Finding::Cause(12, 0xFF)),
+        (&[3, 1, 0, 0, 0, 0, 7], Finding::Cause(13, 3)),
+        (&[0x10, 1, 0, 0, 0, 0, 2, 9, 0, 0, 0, 0, 0], Finding::Cause(14, 2)),
+        (&[5, 1, 0, 0, 0, 1, 0], Finding::Cause(14, 1)),
+        (&[5, 0, 0, 0, 0, 1, 2], Finding::Block(0x102)),
+        (&[0x16, 2, 0, 0, 0, 0, 0, 5, 0, 0, 0, 0, 1, 2], Finding::Block(0x102)),
+        (&[0x58, 1, 0, 0, 0, 0, 0, 2, 0, 0, 0, 0, 0], Finding::Cause(15, 0)),
+    ];
+    for (code, finding) in cases {
+        assert_eq!(found(code), Some(finding), "{code:02X?}");
+    }
+}
+
+/// On random images: a stop 16 by a command is found as the cause that a valid entry would have shown, and an alarm in kernel
+/// mode by its number.
+#[test]
+fn stops_of_random_images() {
+    let mut random = Random(5);
+    let (mut kernel, mut user) = (0, 0);
+    for _ in 0..20_000 {
+        let Ok(mut machine) = Machine::fresh(images::random(&mut random)) else { continue };
+        let _ = machine.desk.run(&mut machine.memory, 200);
+        match machine.desk.mark() {
+            // The entries that `entered` puts in must not be data of the program.
+            Mark::Stopped(16) if !reaches(&machine, 0) => {
+                user += 1;
+                let found = diagnose::of(&machine.desk, &machine.memory);
+                assert_eq!(found, entered(&machine), "{:?}", machine.desk);
+            }
+            Mark::Stopped(number @ 8..=15) => {
+                kernel += 1;
+                match diagnose::of(&machine.desk, &machine.memory) {
+                    Some(Finding::Cause(cause, _)) => assert_eq!(cause, number, "{:?}", machine.desk),
+                    Some(Finding::Block(_)) => assert_eq!(number, 14),
+                    None => panic!("nothing found: {:?}", machine.desk),
+                }
+            }
+            _ => {}
+        }
+    }
+    assert!(kernel > 1000 && user > 1000, "{kernel} stops in kernel mode, {user} stops 16");
+}
+
+fn reaches(machine: &Machine, frame: u32) -> bool {
+    let pages = atlas::pages(&machine.memory, machine.desk.map_base(), machine.desk.map_length());
+    pages.iter().any(|page| page.leads.is_ok_and(|(reached, _)| reached == frame))
+}
+
+/// What happens with valid entries put into the system block itself.
+fn entered(machine: &Machine) -> Option<Finding> {
+    let (mut desk, mut memory) = (machine.desk.clone(), machine.memory.clone());
+    for cause in 0..32 {
+        images::put(&mut memory, 8 * cause + 4, numbers::KERNEL);
+    }
+    desk.set_mark(Mark::Running);
+    let Ok(Event::Entered(cause)) = desk.step(&mut memory) else { return None };
+    let at = desk.control_block() as usize + numbers::CONTROL_ARGUMENT;
+    let argument = u32::from_be_bytes(memory[at..at + 4].try_into().expect("four bytes"));
+    Some(Finding::Cause(cause, argument))
+}
+
+/// A kernel with a program; `{}` are the program's commands, its page 1 and the block.
+fn source(program: &str, page: &str) -> String {
+    format!(
+        "        SEG 0\n        SYSTEM BLOCK\n        ON SYSTEM CALL TO done\n        SEG 100h\n\
+         block:  CONTROL BLOCK START go, MAP m\n        SEG 200h\nstart:  RESUME block\ndone:   HALT\n\
+         \x20       SEG 400h\nm:      MAP\n        PAGE 0: FRAME OF go, READ\n        PAGE 1: {page}\n\
+         \x20       SEG 600h AT 0\ngo:     {program}\n        SYSTEM CALL I 0\n        MEMORY A00h\n"
+    )
+}
+
+/// A missing entry, with each alarm in words and the place to look at.
+#[test]
+fn alarms_of_a_program_in_words() {
+    let cases = [
+        ("MOVE W R0,400h", "FRAME 4, WRITE", "cause 8: an address past the map, address 400h (page 2)", "there is no page 2 in map m: it has 2 pages, up to address 3FFh"),
+        ("MOVE W 200h,R0", "ABSENT", "cause 9: an absent page, address 200h (page 1)", "page 1 is absent in map m (entry at 404h: 00000000h)"),
+        ("MOVE W 200h,R0", "FRAME 9, READ", "cause 10: a damaged map entry, address 200h (page 1)", "page 1 is damaged in map m: it names frame 9, and the memory has 5 (entry at 404h)"),
+        ("MOVE W R0,204h", "FRAME 4, READ", "cause 11: a write to a page without the right to write, address 204h (page 1)", "page 1 is frame 4, which may only be read, in map m (entry at 404h: 80000004h; C0000004h would let it be written)"),
+        ("DD B FFh", "ABSENT", "cause 12: an unknown command byte, FFh", "no command has the byte FFh"),
+        ("HALT", "ABSENT", "cause 13: a command that only kernel mode has, HALT", "HALT is for kernel mode; a program ends by a system call"),
+        ("DD B 70h,2,0,0,0,0,0", "ABSENT", "cause 14: an operand that breaks a rule, operand 1", "operand 1 of JUMP (six bytes at 1): form 2, as in `R1`, has no address, and one is needed"),
+        ("DIV W I 0,R1", "ABSENT", "cause 15: DIV by zero", "the divisor, which is the first operand, is 0"),
+    ];
+    for (program, page, cause, look) in cases {
+        let file = written("alarm.mi", source(program, page).as_bytes());
+        let (out, status) = said(&["run", &file]);
+        assert_eq!(status, 16, "{program}: {out}");
+        let joined = out.replace("\n    ", " ");
+        for words in [cause, look, "command: program block at go (0): ", "missing: the system block's entry for cause"]
+        {
+            assert!(joined.contains(words), "{program}: '{words}' is not in\n{joined}");
+        }
+    }
+}
+
+/// Kernel code at 200h, run: the end in words without the registers.
+fn words(name: &str, code: &str) -> String {
+    let file = written(name, format!("        SEG 200h\n{code}").as_bytes());
+    let (out, _) = said(&["run", &file]);
+    out.split("\n\n").next().expect("words").to_string()
+}
+
+#[test]
+fn a_jump_gone_astray_is_told() {
+    let astray = words("astray.mi", "start:  JUMP 5000h\n");
+    assert!(astray.contains("stop 8 after 2 steps, in kernel mode: address 5000h is past the memory"), "{astray}");
+    assert!(astray.contains("came from: the kernel at start (200h): JUMP"), "{astray}");
+    let into_data = words("data.mi", "start:  CLEAR W R0\n        DD B FFh\n");
+    assert!(into_data.contains("came from: the kernel at start (200h): CLEAR W R0 (line 2)"), "{into_data}");
+    assert!(!words("divided.mi", "start:  DIV W R1,R2\n").contains("came from"));
+}
+
+/// Also where it happens after millions of steps.
+#[test]
+fn a_jump_gone_astray_in_a_long_run() {
+    let code = "start:  MOVE W I 1000000,R1\nloop:   SUB W I 1,R1\n        JNE loop\nout:    JUMP 7000h\n";
+    let astray = words("astray_long.mi", code);
+    assert!(astray.contains("stop 8 after 2,000,003 steps"), "{astray}");
+    assert!(astray.contains("came from: the kernel at out (221h): JUMP 7000h (line 5)"), "{astray}");
+}
+
+#[test]
+fn a_stack_that_is_not_set_up_is_told() {
+    for code in ["start:  PUSHR\n", "start:  CALL start\n"] {
+        assert!(
+            words("stack.mi", code).contains("look at: SP is 0: it must be set before the first CALL or PUSHR"),
+            "{code}"
+        );
+    }
+}

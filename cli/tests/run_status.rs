@@ -1,0 +1,120 @@
+//! The exit status tells the end, and bad input of every kind gets a sentence.
+
+mod support;
+
+use support::{example, file, refused, said, written};
+
+fn status(arguments: &[&str]) -> i32 {
+    said(arguments).1
+}
+
+#[test]
+fn each_stop_is_the_status() {
+    for stop in [8, 12, 13, 14, 15, 16] {
+        let (out, status) = said(&["run", &file(&format!("tests/trace/stop_{stop}.hex"))]);
+        assert_eq!(status, stop);
+        assert!(out.starts_with(&format!("stop {stop} after ")), "{out}");
+    }
+    assert_eq!(status(&["run", &example("sum")]), 0);
+}
+
+#[test]
+fn limits_and_until() {
+    let example = example("user_mode");
+    let (out, status) = said(&["run", &example, "--steps", "7"]);
+    assert_eq!((status, out.lines().next()), (124, Some("still running after 7 steps, the limit")));
+    let (out, status) = said(&["run", &example, "--until", "entry:11"]);
+    assert_eq!((status, out.lines().next()), (125, Some("held after 8 steps: at a kernel entry of cause 11")));
+    let (out, status) = said(&["run", &example, "--until", "entry"]);
+    assert_eq!((status, out.lines().next()), (125, Some("held after 2 steps: at a kernel entry")));
+    let (out, _) = said(&["run", &example, "--until", "finish"]);
+    assert_eq!(out.lines().next(), Some("held after 13 steps: before the command at finish (249h)"));
+    let (out, _) = said(&["run", &example, "--until", "14h"]);
+    assert_eq!(out.lines().next(), Some("held after 7 steps: before the command at 14h"));
+    assert_eq!(self::status(&["run", &example, "--steps", "0"]), 124);
+    assert_eq!(self::status(&["run", &example, "--until", "900h"]), 0);
+}
+
+#[test]
+fn refusals_are_told() {
+    let example = example("sum");
+    let (sentence, status) = refused(&["run", &example, "--memory", "1025"]);
+    assert_eq!(
+        (sentence.as_str(), status),
+        ("desk run: refusal 1: the memory length is not allowed (it has 1025 bytes; allowed are multiples of 512, up to 16777216)\n", 33)
+    );
+    let (sentence, status) = refused(&["run", &example, "--system", "301h"]);
+    assert!(
+        sentence.starts_with("desk run: refusal 2: the system block's address is no multiple of 4") && status == 34
+    );
+    let (sentence, status) = refused(&["debug", &example, "--control", "3F0h"]);
+    assert!(sentence.starts_with("desk debug: refusal 3: the control block's") && status == 35, "{sentence}");
+}
+
+#[test]
+fn arguments_that_do_not_fit() {
+    let example = example("sum");
+    let cases: [(&[&str], &str); 11] = [
+        (&["--stpes", "3"], "there is no option '--stpes'; did you mean --steps?"),
+        (&["--steps"], "--steps needs a value, N"),
+        (&["--steps", "-3"], "--steps needs a number such as 1000 or 3E8h, and '-3' is none"),
+        (&["--memory", "512"], "--memory 512 is less than the 1024 bytes of the file"),
+        (&["--memory", "99999999"], "--memory can be at most 16777216"),
+        (&["--request", "5"], "--request needs LEVEL@STEP, such as 5@20, and '5' is none"),
+        (&["--request", "16@1"], "--request has the level 16, and levels are 1 to 15"),
+        (&["--request", "5@0"], "--request counts steps from 1"),
+        (&["--until", "nowhere"], "'nowhere' is neither an address such as 410h nor a name of the file, nor `entry`"),
+        (&["--until", "entry:7"], "'entry:7' names no cause: 1, 8 to 15 or 17 to 31"),
+        (&["--dump", "x,y"], "--dump needs ADDRESS[,COUNT], such as 410h or block,80, and 'x,y' is none"),
+    ];
+    for (options, sentence) in cases {
+        let mut arguments = vec!["run", &example];
+        arguments.extend(options);
+        let (said, status) = refused(&arguments);
+        assert_eq!((said, status), (format!("desk run: {sentence}; `desk help run` tells more\n"), 64));
+    }
+}
+
+#[test]
+fn files_that_are_not_usable() {
+    for verb in ["run", "debug", "map", "picture"] {
+        let (sentence, status) = refused(&[verb, "there/is/no/such.mi"]);
+        assert!(status == 66 && sentence.contains("cannot be read"), "{verb}: {sentence}");
+        let bad = written("bad.hex", b"00 0g\n");
+        let (sentence, status) = refused(&[verb, &bad]);
+        assert!(status == 65 && sentence.contains(":1"), "{verb}: {sentence}");
+        let (sentence, status) = refused(&[verb]);
+        assert!(status == 64 && sentence.contains("it needs FILE"), "{sentence}");
+    }
+    let (sentence, status) = refused(&["picture", &example("sum"), "-o", "no/such/folder/x.svg"]);
+    assert!(status == 74 && sentence.contains("cannot be written"), "{sentence}");
+    let (sentence, status) = refused(&["debug", &example("sum"), "--script", "no/such/script"]);
+    assert!(status == 66 && sentence.contains("cannot be read"), "{sentence}");
+}
+
+#[test]
+fn help_without_arguments() {
+    let (overview, status) = said(&["help"]);
+    assert!(status == 0 && overview.contains("desk run FILE"));
+    assert_eq!(said(&["run", "--help"]), said(&["help", "run"]));
+    assert_eq!(said(&["--help"]).0, overview);
+    assert_eq!(said(&["--version"]), ("desk 1.0.0, over libmidesk 1.0.0\n".to_string(), 0));
+    assert!(said(&["help", "stops"]).0.contains("17 to 31"));
+    let (sentence, status) = refused(&["help", "fly"]);
+    assert!(status == 64 && sentence.contains("there is no verb 'fly'"), "{sentence}");
+}
+
+#[test]
+fn dumps_of_names() {
+    let example = example("isolation");
+    let (out, _) =
+        said(&["run", &example, "--dump", "private,4", "--dump", "codeB,4", "--dump", "count", "--dump", "FFCh,8"]);
+    for words in [
+        "memory from private (C00h)\n0C00h  0B0B0B0B",
+        "memory from A00h\n0A00h  6601000B",
+        "memory from count (420h)\n0420h  00000006",
+        "0FFCh  00000000                             ....\nthe memory ends at 1000h\n",
+    ] {
+        assert!(out.contains(words), "'{words}' is not in\n{out}");
+    }
+}
