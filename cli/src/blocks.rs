@@ -69,8 +69,8 @@ pub fn entries(known: &Known, memory: &[u8], system: u32) -> Vec<String> {
             true => {
                 let level =
                     if status & 0xF0 != 0 { format!(", level {}", (status & 0xF0) >> 4) } else { String::new() };
-                let words = format!("cause {cause}, {}:", words::cause(cause));
-                lines.push(format!("  {words:56} at {}{level}", known.real_place(r15)));
+                let words = format!("cause {cause}: {}", words::cause(cause));
+                lines.push(format!("  {words:64}  at {}{level}", known.real_place(r15)));
             }
             false => missing.push(cause),
         }
@@ -105,7 +105,7 @@ pub fn control(known: &Known, memory: &[u8], at: u32, name: &str) -> Vec<String>
         return vec![format!("control block at {}: not in the memory", known.real_place(at))];
     }
     let word = |offset: u32| word(offset).unwrap_or(0);
-    let mut lines = vec![format!("control block of {name} at {}", known.real_place(at))];
+    let mut lines = vec![format!("control block of {name} at {}, registers as saved there", known.real_place(at))];
     for row in 0..4 {
         let cell = |i: u32| format!("{:3} {:08X}", notation::register(i as u8), word(4 * i));
         lines.push(format!("  {}", (0..4).map(|column| cell(4 * row + column)).collect::<Vec<_>>().join("   ")));

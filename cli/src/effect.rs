@@ -63,7 +63,7 @@ fn target(desk: &Desk, memory: &[u8], command: &Decoded) -> Option<(u32, u32)> {
 
 /// The address of an operand, after its step; the outer none is a word of forms 5 and 6 that cannot be read, the inner one an
 /// operand without an address.
-fn address(
+pub fn address(
     fields: &Fields,
     length: u32,
     registers: &mut [u32; 16],
@@ -91,7 +91,7 @@ fn address(
     })
 }
 
-fn length(size: Size) -> u32 {
+pub fn length(size: Size) -> u32 {
     match size {
         Size::B => 1,
         Size::H => 2,

@@ -5,24 +5,52 @@ use crate::diagnose::Finding;
 use crate::effect;
 use crate::forms;
 use crate::machine::{self, Known};
+use crate::neighbours;
 use crate::notation::hexadecimal;
 use crate::table::{self, Operand, Role};
 use crate::view::{self, Damage};
 use crate::words;
 use midesk::{numbers, Desk};
 
-/// The hint for a finding; `desk` is the desk before the command.
-pub fn of(known: &Known, memory: &[u8], desk: &Desk, finding: Finding) -> Option<String> {
+/// A line of where to look: a word for it, and the line.
+#[derive(Clone, PartialEq, Eq, Debug)]
+pub struct Hint {
+    pub label: &'static str,
+    pub text: String,
+}
+
+impl Hint {
+    fn new(label: &'static str, text: String) -> Hint {
+        Hint { label, text }
+    }
+
+    /// `page: page 3 is frame 6 ..`.
+    pub fn line(&self) -> String {
+        format!("{}: {}", self.label, self.text)
+    }
+}
+
+/// The hints for a finding, what comes first first; `desk` is the desk before the command.
+pub fn of(known: &Known, memory: &[u8], desk: &Desk, finding: Finding) -> Vec<Hint> {
+    match finding {
+        Finding::Cause(cause @ 8..=11, address) if !no_stack(memory, desk) => {
+            let gave = neighbours::address(known, memory, desk, cause, address);
+            let mut hints: Vec<Hint> = gave.map(|words| Hint::new("address", words)).into_iter().collect();
+            hints.push(match desk.is_kernel() {
+                true => Hint::new("memory", format!("it ends at {}", hexadecimal(memory.len() as u32))),
+                false => Hint::new("map", entry(known, memory, desk, address)),
+            });
+            hints
+        }
+        _ => rule(memory, desk, finding).map(|words| Hint::new("look at", words)).into_iter().collect(),
+    }
+}
+
+/// The rule that a finding is about, where it is not about an address.
+fn rule(memory: &[u8], desk: &Desk, finding: Finding) -> Option<String> {
     match finding {
         Finding::Block(at) => Some(block(memory, at)),
-        Finding::Cause(8..=11, _) if no_stack(memory, desk) => {
-            Some("SP is 0: it must be set before the first CALL or PUSHR".to_string())
-        }
-        Finding::Cause(8..=11, address) if desk.is_kernel() => {
-            let end = hexadecimal(memory.len() as u32);
-            Some(format!("the memory ends at {end}; the address {} is not in it", hexadecimal(address)))
-        }
-        Finding::Cause(8..=11, address) => Some(entry(known, memory, desk, address)),
+        Finding::Cause(8..=11, _) => Some("SP is 0: it must be set before the first CALL or PUSHR".to_string()),
         Finding::Cause(12, byte) => Some(format!(
             "no command has the byte {}; perhaps a jump went astray, or the commands before it ran on into data",
             words::byte(byte)
@@ -51,7 +79,10 @@ pub fn entry(known: &Known, memory: &[u8], desk: &Desk, address: u32) -> String 
     match view::real(memory, base, length, address) {
         Ok((real, rights)) if !rights.write => {
             let (page, frame) = (address / 512, real / 512);
-            format!("page {page} is frame {frame}, which may only be read, in {map} (entry at {at}: {:08X}h; {:08X}h would let it be written)", 0x8000_0000 | frame, 0xC000_0000 | frame)
+            format!(
+                "page {page} is frame {frame}, which may only be read, in {map} (entry at {at}: {:08X}h)",
+                0x8000_0000 | frame
+            )
         }
         Ok((real, _)) => {
             format!("page {} is frame {}, which may be written, in {map} (entry at {at})", address / 512, real / 512)

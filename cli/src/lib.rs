@@ -2,6 +2,7 @@
 //! proved library through the safe crate `midesk`; what it does itself is plain Rust, tested.
 #![forbid(unsafe_code)]
 
+pub mod access;
 pub mod asm;
 pub mod atlas;
 pub mod blocks;
@@ -22,6 +23,7 @@ pub mod lists;
 pub mod machine;
 pub mod map;
 pub mod names;
+pub mod neighbours;
 pub mod notation;
 pub mod options;
 pub mod output;

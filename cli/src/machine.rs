@@ -168,6 +168,12 @@ impl Known {
         options::address(text, &self.real).or_else(|| self.programs.iter().find_map(of_program))
     }
 
+    /// What an address can be, with names of this file: for a sentence about `text`, which is none.
+    pub fn address_words(&self, text: &str) -> String {
+        let names = std::iter::once(&self.real).chain(self.programs.iter().map(|program| &program.names));
+        options::examples(text, names.flat_map(Names::iter))
+    }
+
     /// The line of the source that gave the byte at a real address.
     pub fn line(&self, real: u32) -> Option<&SourceLine> {
         self.lines.iter().find(|line| line.address == real)

@@ -33,7 +33,8 @@ pub fn take(name: &str, arguments: &[String]) -> Result<Given, u8> {
 
 /// Says what is wrong with the arguments of a verb, and gives the status of that.
 pub fn usage(verb: &str, sentence: &str) -> u8 {
-    output::err(&format!("desk {verb}: {sentence}; `desk help {verb}` tells more\n"));
+    let end = if sentence.ends_with('?') { "" } else { ";" };
+    output::err(&format!("desk {verb}: {sentence}{end} `desk help {verb}` tells more\n"));
     output::USAGE
 }
 
@@ -72,6 +73,7 @@ impl Given {
         let value = match (option.value, joined) {
             (None, None) => String::new(),
             (None, Some(_)) => return Err(format!("{name} takes no value")),
+            (Some(what), Some(value)) if value.is_empty() => return Err(format!("{name} needs a value, {what}")),
             (Some(_), Some(value)) => value,
             (Some(what), None) => rest.next().cloned().ok_or_else(|| format!("{name} needs a value, {what}"))?,
         };
@@ -110,7 +112,7 @@ impl Given {
 
     /// The value of an option that is an address: a number, a name, or a name and a distance.
     pub fn address(&self, name: &str, names: &Names) -> Result<Option<u32>, String> {
-        self.value(name).map(|text| address(text, names).ok_or_else(|| no_address(name, text))).transpose()
+        self.value(name).map(|text| address(text, names).ok_or_else(|| no_address(name, text, names))).transpose()
     }
 }
 
@@ -118,12 +120,30 @@ fn no_number(name: &str, text: &str) -> String {
     format!("{name} needs a number such as 1000 or 3E8h, and '{}' is none", shown(text))
 }
 
-fn no_address(name: &str, text: &str) -> String {
-    format!("{name} needs an address: '{}' is neither a number such as 410h nor a name of the file", shown(text))
+fn no_address(name: &str, text: &str, names: &Names) -> String {
+    let examples = examples(text, names.iter());
+    format!("{name} needs an address, and '{}' is none: {examples}", shown(text))
 }
 
-/// A count: a number without a sign, of 64 bits.
+/// What an address can be, with a name of this file: for a sentence about a text that is none.
+pub fn examples<'a>(text: &str, mut names: impl Iterator<Item = (&'a str, u32)>) -> String {
+    let hexadecimal = !text.is_empty() && text.chars().all(|letter| letter.is_ascii_hexdigit());
+    if hexadecimal && notation::number(text).is_none() {
+        return format!("a hexadecimal number is written with h, {}h", shown(text));
+    }
+    match names.find(|(name, _)| !name.contains('.')) {
+        Some((name, _)) => format!("one is a number such as 410h or a name of the file such as {name}"),
+        None => "one is a number such as 410h; the file has no names".to_string(),
+    }
+}
+
+/// A count: a number without a sign, of 64 bits, also with commas as `desk` writes it: 1,000.
 pub fn count(text: &str) -> Option<u64> {
+    if let Some((first, rest)) = text.split_once(',') {
+        let groups = rest.split(',').all(|group| group.len() == 3 && group.bytes().all(|b| b.is_ascii_digit()));
+        let fits = groups && (1..=3).contains(&first.len()) && first.bytes().all(|b| b.is_ascii_digit());
+        return fits.then(|| text.replace(',', "").parse().ok()).flatten();
+    }
     let plain = text.bytes().all(|b| b.is_ascii_digit()).then(|| text.parse().ok()).flatten();
     match text.starts_with('-') {
         true => None,
@@ -170,7 +190,7 @@ fn find(verb: &'static Verb, name: &str) -> Result<&'static Opt, String> {
 pub fn nearest<'a>(typed: &str, words: impl Iterator<Item = &'a str>) -> Option<&'a str> {
     let typed: Vec<char> = typed.chars().take(40).collect();
     let far = words.map(|word| (distance(&typed, word), word)).min()?;
-    (far.0 <= 2 && far.0 < typed.len()).then_some(far.1)
+    (far.0 <= 2 && 2 * far.0 <= typed.len()).then_some(far.1)
 }
 
 /// How many letters must be put in, left out or changed.
@@ -236,7 +256,10 @@ mod tests {
     fn counts_and_addresses() {
         assert_eq!(count("5000000000"), Some(5_000_000_000));
         assert_eq!(count("10h"), Some(16));
-        assert_eq!(count("-1"), None);
+        assert_eq!(count("1,000,000"), Some(1_000_000));
+        for wrong in ["-1", "1,00", "1,0000", ",000", "1000,000", "1,", "10h,000"] {
+            assert_eq!(count(wrong), None, "{wrong}");
+        }
         assert_eq!(count("ten"), None);
         let mut names = Names::none();
         names.add("block", 0x100);

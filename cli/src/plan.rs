@@ -1,8 +1,11 @@
 //! What a run shall do: its limit, requests, where it ends, what is shown. Read from the options of `desk run`.
 
-use crate::machine::{Known, Machine};
+use crate::diagnose::Finding;
+use crate::machine::{self, Known, Machine};
 use crate::notation::hexadecimal;
 use crate::options::{self, Given};
+use crate::report::End;
+use crate::words;
 use midesk::Desk;
 
 /// Steps that a run makes at most if nothing is said.
@@ -46,6 +49,22 @@ pub enum Mode {
 }
 
 impl Place {
+    /// `the command at loop (20Dh) of program A`.
+    fn words(&self, known: &Known) -> String {
+        let of = |block: u32| known.programs.iter().find(|program| program.control_block == block);
+        match self.mode {
+            None => format!("the command at {}", hexadecimal(self.address)),
+            Some(Mode::Kernel) => format!("the kernel's command at {}", known.real_place(self.address)),
+            Some(Mode::User { control_block }) => match of(control_block) {
+                Some(program) => {
+                    let at = machine::place(&program.names, self.address);
+                    format!("the command at {at} of program {}", program.name)
+                }
+                None => format!("the command at {}", hexadecimal(self.address)),
+            },
+        }
+    }
+
     pub fn is_at(&self, desk: &Desk) -> bool {
         let mode = match self.mode {
             None => true,
@@ -111,7 +130,8 @@ pub fn place(text: &str, known: &Known) -> Result<Place, String> {
         Some(Place { address, mode: Some(Mode::User { control_block: program.control_block }) })
     });
     of_program.ok_or_else(|| {
-        format!("'{}' is neither an address such as 410h nor a name of the file, nor `entry`", options::shown(text))
+        let address = known.address_words(text);
+        format!("'{}' is neither `entry` nor an address: {address}", options::shown(text))
     })
 }
 
@@ -121,12 +141,39 @@ fn dump(text: &str, machine: &Machine) -> Result<(u32, u32), String> {
         None => (text, Some(DUMP)),
     };
     let address = machine.known.real_address(&machine.memory, from);
-    address.zip(count).ok_or_else(|| {
-        format!("--dump needs ADDRESS[,COUNT], such as 410h or block,80, and '{}' is none", options::shown(text))
-    })
+    let count = count.ok_or_else(|| format!("--dump {}: the count is no number such as 80", options::shown(text)))?;
+    let address = address.ok_or_else(|| {
+        format!(
+            "--dump {}: '{}' is no address: {}",
+            options::shown(text),
+            options::shown(from),
+            machine.known.address_words(from)
+        )
+    })?;
+    Ok((address, count))
 }
 
 impl Until {
+    /// Why a run ended and was not held; none where it was.
+    pub fn not_held(&self, known: &Known, end: &End, finding: Option<Finding>) -> Option<String> {
+        let became = match (end, finding) {
+            (End::Held(_) | End::Refused(_), _) => return None,
+            (End::Stopped(16), Some(Finding::Cause(cause, _))) => Some(cause),
+            _ => None,
+        };
+        Some(match (self, became) {
+            (Until::Entry(None), Some(came)) => {
+                format!("not held: no kernel entry came; {} came, but as stop 16", words::event(came))
+            }
+            (Until::Entry(Some(cause)), Some(came)) if *cause == came => {
+                format!("not held: {} came, but as stop 16, and not as a kernel entry", words::event(came))
+            }
+            (Until::Entry(None), None) => "not held: no kernel entry came".to_string(),
+            (Until::Entry(Some(cause)), _) => format!("not held: no kernel entry of cause {cause} came"),
+            (Until::Place(place), _) => format!("not held: {} was not reached", place.words(known)),
+        })
+    }
+
     pub fn words(&self, known: &Known, desk: &Desk) -> String {
         match self {
             Until::Entry(None) => "at a kernel entry".to_string(),

@@ -2,7 +2,7 @@
 
 use crate::diagnose::{self, Finding};
 use crate::effect;
-use crate::hints;
+use crate::hints::{self, Hint};
 use crate::machine::{self, Known, Machine};
 use crate::notation::{self, hexadecimal};
 use crate::view;
@@ -27,7 +27,7 @@ pub struct Entry {
     pub cause: u32,
     pub argument: u32,
     pub words: String,
-    pub hint: Option<String>,
+    pub hints: Vec<Hint>,
 }
 
 impl Entry {
@@ -41,8 +41,8 @@ impl Entry {
             _ => format!(", in {}", machine.known.who(&before)),
         };
         let words = format!("cause {cause}: {}{by}", words::cause_with(cause, argument));
-        let hint = hints::of(&machine.known, &machine.memory, &before, Finding::Cause(cause, argument));
-        Entry { step: machine.steps, cause, argument, words, hint }
+        let hints = hints::of(&machine.known, &machine.memory, &before, Finding::Cause(cause, argument));
+        Entry { step: machine.steps, cause, argument, words, hints }
     }
 }
 
@@ -70,6 +70,18 @@ pub fn commanded(machine: &Machine, desk: &Desk) -> String {
     format!("{} at {}: {command}{line}", known.who(desk), known.place(desk, address))
 }
 
+/// A stop in words, with the alarm or other cause behind it where that is known.
+pub fn stop(number: u32, finding: Option<Finding>) -> String {
+    match (number, finding) {
+        (16, Some(Finding::Cause(cause, _))) => {
+            format!("{}, and the system block has no valid kernel status for it", words::event(cause))
+        }
+        (14, Some(Finding::Block(_))) => "alarm 14 in kernel mode, RESUME's block cannot be used".to_string(),
+        (_, Some(Finding::Cause(cause, argument))) if cause == number => words::alarm_with(cause, argument),
+        _ => words::stop(number),
+    }
+}
+
 /// The first line of a report.
 pub fn headline(machine: &Machine, end: &End, finding: Option<Finding>) -> String {
     let steps = words::steps(machine.steps);
@@ -78,15 +90,7 @@ pub fn headline(machine: &Machine, end: &End, finding: Option<Finding>) -> Strin
             let at = machine.desk.register(15).wrapping_sub(1);
             format!("stop 0 after {steps}: HALT at {}", machine.known.real_place(at))
         }
-        End::Stopped(16) => format!("stop 16 after {steps}: {}", words::stop(16)),
-        End::Stopped(number) => {
-            let words = match finding {
-                Some(Finding::Cause(cause, argument)) if cause == *number => words::alarm_with(cause, argument),
-                Some(Finding::Block(_)) => "RESUME's block cannot be used".to_string(),
-                _ => words::stop(*number),
-            };
-            format!("stop {number} after {steps}, in kernel mode: {words}")
-        }
+        End::Stopped(number) => format!("stop {number} after {steps}: {}", stop(*number, finding)),
         End::Limit => format!("still running after {steps}, the limit"),
         End::Held(what) => format!("held after {steps}: {what}"),
         End::Refused(refusal) => format!("refusal {} after {steps}: {refusal}", refusal.number()),
@@ -107,8 +111,8 @@ pub fn notes(machine: &Machine, end: &End, finding: Option<Finding>) -> Vec<Stri
         }
         _ => notes.push(format!("next: {}", commanded(machine, desk))),
     }
-    let hint = finding.and_then(|finding| hints::of(known, &machine.memory, desk, finding));
-    notes.extend(hint.map(|hint| format!("look at: {hint}")));
+    let hints = finding.map(|finding| hints::of(known, &machine.memory, desk, finding)).unwrap_or_default();
+    notes.extend(hints.iter().map(Hint::line));
     if let (End::Stopped(16), Some(Finding::Cause(cause, _))) = (end, finding) {
         notes.push(missing_entry(machine, cause));
     }
@@ -122,21 +126,25 @@ pub fn origin(machine: &Machine, end: &End, before: Option<&Desk>) -> Option<Str
     Some(format!("came from: {}", commanded(machine, before)))
 }
 
-/// The finding behind a stop that is no HALT.
+/// The finding behind the end of a run.
 pub fn finding(machine: &Machine, end: &End) -> Option<Finding> {
     match end {
-        End::Stopped(0) => None,
-        End::Stopped(_) => diagnose::of(&machine.desk, &machine.memory),
+        End::Stopped(number) => behind(&machine.desk, &machine.memory, *number),
         _ => None,
     }
 }
 
-/// What the system block has for a cause that it does not provide for.
+/// The finding behind a stop that is no HALT.
+pub fn behind(desk: &Desk, memory: &[u8], number: u32) -> Option<Finding> {
+    (number != numbers::HALT).then(|| diagnose::of(desk, memory)).flatten()
+}
+
+/// Why a cause is no kernel entry: what the system block has for it.
 fn missing_entry(machine: &Machine, cause: u32) -> String {
     let at = machine.desk.system_block().wrapping_add(8 * cause);
     let status = view::word(&machine.memory, at.wrapping_add(4)).unwrap_or(0);
     format!(
-        "missing: the system block's entry for cause {cause}, at {}, has the status {status:08X}h, where 80000000h is needed, with level and flags at most",
+        "stop 16: the system block's entry for cause {cause}, at {}, has the status {status:08X}h, which is no valid kernel status; so the desk stops, and the kernel is not entered",
         hexadecimal(at),
     )
 }

@@ -11,7 +11,7 @@ use crate::report::{self, End, Entry};
 use crate::setup;
 use crate::trace;
 use crate::words;
-use midesk::{Desk, Event};
+use midesk::{numbers, Desk, Event};
 use std::io::{self, Write};
 
 /// The writer of a run.
@@ -68,8 +68,9 @@ pub fn status(end: &End) -> u8 {
 }
 
 /// Where to look, and where the desk came from.
-fn notes(machine: &Machine, ran: &Ran, finding: Option<Finding>) -> Vec<String> {
+fn notes(machine: &Machine, plan: &Plan, ran: &Ran, finding: Option<Finding>) -> Vec<String> {
     let mut notes = report::notes(machine, &ran.end, finding);
+    notes.extend(plan.until.as_ref().and_then(|until| until.not_held(&machine.known, &ran.end, finding)));
     notes.extend(report::origin(machine, &ran.end, ran.origin.as_ref()));
     notes
 }
@@ -77,12 +78,15 @@ fn notes(machine: &Machine, ran: &Ran, finding: Option<Finding>) -> Vec<String> 
 fn end_lines(machine: &Machine, plan: &Plan, ran: &Ran) -> Vec<String> {
     let finding = report::finding(machine, &ran.end);
     let mut lines = vec![report::headline(machine, &ran.end, finding)];
-    lines.extend(notes(machine, ran, finding).iter().flat_map(|note| words::folded(note, 2, 4)));
-    if let Some(Entry { step, words, hint, .. }) = &ran.entry {
+    lines.extend(notes(machine, plan, ran, finding).iter().flat_map(|note| words::folded(note, 2, 4)));
+    if let Some(Entry { step, words, hints, .. }) = &ran.entry {
         lines.extend(words::folded(&format!("last kernel entry: step {}, {words}", words::count(*step)), 0, 4));
-        lines.extend(hint.iter().flat_map(|hint| words::folded(&format!("look at: {hint}"), 2, 4)));
+        lines.extend(hints.iter().flat_map(|hint| words::folded(&hint.line(), 2, 4)));
     }
-    lines.extend(not_made(machine, plan));
+    lines.extend(
+        not_made(machine, plan)
+            .map(|(step, level)| format!("the request {level}@{step} was not made: the run ended before that step")),
+    );
     lines.push(String::new());
     lines.extend(report::state(&machine.known, &machine.desk));
     for (address, count) in &plan.dumps {
@@ -93,10 +97,8 @@ fn end_lines(machine: &Machine, plan: &Plan, ran: &Ran) -> Vec<String> {
 }
 
 /// Requests whose step was not reached.
-fn not_made(machine: &Machine, plan: &Plan) -> Vec<String> {
-    let late = plan.requests.iter().filter(|(step, _)| *step > machine.steps);
-    late.map(|(step, level)| format!("the request {level}@{step} was not made: the run ended before that step"))
-        .collect()
+fn not_made<'a>(machine: &'a Machine, plan: &'a Plan) -> impl Iterator<Item = &'a (u64, u32)> {
+    plan.requests.iter().filter(|(step, _)| *step > machine.steps)
 }
 
 fn dump_lines(machine: &Machine, address: u32, count: u32) -> Vec<String> {
@@ -121,12 +123,17 @@ fn step_object(machine: &Machine, step: &Step) -> Json {
         Event::Stopped(number) => ("stop", Some(number)),
         _ => ("done", None),
     };
-    let argument = (event == "entry").then(|| trace::argument(&machine.memory, step));
-    let said = match (number, argument) {
-        (Some(cause), Some(argument)) => Some(words::cause_with(cause, argument)),
-        (Some(number), None) => Some(words::stop(number)),
+    let finding = match step.event {
+        Event::Entered(cause) => Some(Finding::Cause(cause, trace::argument(&machine.memory, step))),
+        Event::Stopped(number) => report::behind(&step.after, &machine.memory, number),
         _ => None,
     };
+    let said = match (step.event, finding) {
+        (Event::Entered(_), Some(Finding::Cause(cause, argument))) => Some(words::cause_with(cause, argument)),
+        (Event::Stopped(number), finding) => Some(report::stop(number, finding)),
+        _ => None,
+    };
+    let [cause, argument] = numbers_of(finding);
     let command = step.command.as_ref().and_then(|command| command.as_ref().ok());
     let names = machine.known.names(&step.before);
     Json::Object(vec![
@@ -137,7 +144,8 @@ fn step_object(machine: &Machine, step: &Step) -> Json {
         ("bytes", Json::or_null(command, |command| Json::bytes(&command.bytes))),
         ("event", Json::text(event)),
         ("number", Json::or_null(number, Json::word)),
-        ("argument", Json::or_null(argument, Json::word)),
+        ("cause", cause),
+        ("argument", argument),
         ("words", Json::or_null(said, Json::text)),
         ("r15", Json::word(step.after.register(15))),
         ("status", Json::word(step.after.status())),
@@ -145,6 +153,15 @@ fn step_object(machine: &Machine, step: &Step) -> Json {
         ("registers", Json::List(trace::registers(step).into_iter().map(register_object).collect())),
         ("memory", Json::List(step.changes.iter().map(change_object).collect())),
     ])
+}
+
+/// Cause and argument of a finding; the block of a RESUME has no argument.
+fn numbers_of(finding: Option<Finding>) -> [Json; 2] {
+    match finding {
+        Some(Finding::Cause(cause, argument)) => [Json::word(cause), Json::word(argument)],
+        Some(Finding::Block(_)) => [Json::word(numbers::OPERAND), Json::Null],
+        None => [Json::Null, Json::Null],
+    }
 }
 
 fn flags(desk: &Desk) -> Json {
@@ -172,11 +189,14 @@ fn end_object(machine: &Machine, plan: &Plan, ran: &Ran, status: u8) -> Json {
         End::Refused(refusal) => ("refused", Some(refusal.number())),
     };
     let finding = report::finding(machine, &ran.end);
-    let hints = notes(machine, ran, finding).into_iter().map(Json::Text).collect();
+    let hints = notes(machine, plan, ran, finding).into_iter().map(Json::Text).collect();
+    let [cause, argument] = numbers_of(finding);
     let desk = &machine.desk;
     Json::Object(vec![
         ("end", Json::text(end)),
         ("number", Json::or_null(number, Json::word)),
+        ("cause", cause),
+        ("argument", argument),
         ("words", Json::text(report::headline(machine, &ran.end, finding))),
         ("hints", Json::List(hints)),
         ("exit", Json::word(u32::from(status))),
@@ -192,8 +212,13 @@ fn end_object(machine: &Machine, plan: &Plan, ran: &Ran, status: u8) -> Json {
         ("map_length", Json::word(desk.map_length())),
         ("system_block", Json::word(desk.system_block())),
         ("control_block", Json::word(desk.control_block())),
+        ("not_made", Json::List(not_made(machine, plan).map(request_object).collect())),
         ("dumps", Json::List(plan.dumps.iter().map(|dump| dump_object(machine, *dump)).collect())),
     ])
+}
+
+fn request_object((step, level): &(u64, u32)) -> Json {
+    Json::Object(vec![("step", Json::Number(*step)), ("level", Json::word(*level))])
 }
 
 fn entry_object(entry: &Entry) -> Json {
@@ -202,7 +227,7 @@ fn entry_object(entry: &Entry) -> Json {
         ("cause", Json::word(entry.cause)),
         ("argument", Json::word(entry.argument)),
         ("words", Json::text(&entry.words)),
-        ("hint", Json::or_null(entry.hint.as_ref(), Json::text)),
+        ("hints", Json::List(entry.hints.iter().map(|hint| Json::text(hint.line())).collect())),
     ])
 }
 

@@ -28,7 +28,7 @@ pub const TOPICS: &[Topic] = &[
             Table(&[
                 (".mi", "a source in MI's notation; `desk help asm` tells of it"),
                 (".hex", "commented hexadecimal, as tools/bytes reads it"),
-                ("others", "the bytes themselves, from real address 0 on"),
+                ("others", "the bytes themselves, from real address 0 on; where they look like text the name must end in .bin"),
             ]),
             Say("Where the file does not say otherwise, the system block is at 0, the control block at 100h, and the desk starts at 200h in kernel mode, as under `trace`. docs/MACHINE.md is the machine's manual."),
         ],

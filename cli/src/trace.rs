@@ -5,6 +5,7 @@ use crate::diagnose::Finding;
 use crate::hints;
 use crate::machine::{Change, Known, Step};
 use crate::notation::{self, hexadecimal};
+use crate::report;
 use crate::table::Flow;
 use crate::view;
 use crate::words;
@@ -16,7 +17,7 @@ pub const HEAD: &str = " step mode   address  command                           
 /// The step's lines; `memory` is the memory after it. A kernel entry has lines of its own.
 pub fn lines(known: &Known, memory: &[u8], step: &Step) -> Vec<String> {
     let mut parts = changes(known, step);
-    parts.extend(outcome(known, step));
+    parts.extend(outcome(known, memory, step));
     let head = format!(
         "{:5} {:6} {:>7}  {:36}  {}   {}",
         step.number,
@@ -40,7 +41,8 @@ fn entry(known: &Known, memory: &[u8], step: &Step, cause: u32) -> Vec<String> {
     let on = known.place(&step.after, step.after.register(15));
     let mut lines =
         vec![format!("kernel entry, cause {cause}: {}; goes on at {on}", words::cause_with(cause, argument))];
-    lines.extend(hints::of(known, memory, &step.before, Finding::Cause(cause, argument)));
+    let hints = hints::of(known, memory, &step.before, Finding::Cause(cause, argument));
+    lines.extend(hints.into_iter().map(|hint| hint.text));
     lines
 }
 
@@ -103,11 +105,13 @@ pub fn argument(memory: &[u8], step: &Step) -> u32 {
 }
 
 /// Jumps, RESUME and stops in words.
-fn outcome(known: &Known, step: &Step) -> Option<String> {
+fn outcome(known: &Known, memory: &[u8], step: &Step) -> Option<String> {
     let on = known.place(&step.after, step.after.register(15));
     match (step.event, &step.command) {
         (Event::Entered(_), _) => None,
-        (Event::Stopped(number), _) => Some(format!("stop {number}: {}", words::stop(number))),
+        (Event::Stopped(number), _) => {
+            Some(format!("stop {number}: {}", report::stop(number, report::behind(&step.after, memory, number))))
+        }
         _ if step.before.is_kernel() && !step.after.is_kernel() => {
             Some(format!("to user mode: {} goes on at {on}", known.who(&step.after)))
         }

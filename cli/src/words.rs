@@ -15,12 +15,21 @@ const ALARMS: &[(u32, &str, &str)] = &[
     (15, "DIV by zero", "DIV by zero"),
 ];
 
-/// A cause of a kernel entry, or an alarm in user mode.
+/// A cause of a kernel entry: `alarm 9, an absent page`.
 pub fn cause(number: u32) -> String {
     match number {
+        8..=15 => format!("alarm {number}, {}", alarm(number, false)),
+        _ => event(number),
+    }
+}
+
+/// A cause without what it means: `a system call`, `alarm 9`.
+pub fn event(number: u32) -> String {
+    match number {
         1 => "a system call".to_string(),
+        8..=15 => format!("alarm {number}"),
         17..=31 => format!("an interrupt of level {}", number - 16),
-        _ => alarm(number, false),
+        _ => format!("number {number}, which this version has no words for"),
     }
 }
 
@@ -39,8 +48,13 @@ pub fn stop(number: u32) -> String {
     match number {
         0 => "HALT".to_string(),
         16 => "a kernel entry found no valid kernel status in the system block".to_string(),
-        _ => alarm(number, true),
+        8..=15 => in_kernel_mode(number, &alarm(number, true)),
+        _ => event(number),
     }
+}
+
+fn in_kernel_mode(number: u32, words: &str) -> String {
+    format!("alarm {number} in kernel mode, {words}")
 }
 
 /// A cause with its argument: `a system call, argument 15h (21)`.
@@ -50,11 +64,12 @@ pub fn cause_with(number: u32, argument: u32) -> String {
 
 /// An alarm in kernel mode with its argument.
 pub fn alarm_with(number: u32, argument: u32) -> String {
-    match number {
+    let words = match number {
         8 => format!("address {} is past the memory", notation::hexadecimal(argument)),
         13 => alarm(13, true),
         _ => argued(alarm(number, true), number, argument),
-    }
+    };
+    in_kernel_mode(number, &words)
 }
 
 fn argued(words: String, number: u32, argument: u32) -> String {

@@ -2,7 +2,7 @@
 
 mod common;
 
-use common::{source, Random, EXAMPLES};
+use common::{image, source, Random, EXAMPLES};
 use desk::asm::assemble;
 use desk::hex;
 use desk::image::of_bytes;
@@ -103,7 +103,9 @@ fn answers(text: &str) {
 #[test]
 fn damaged_sources_are_answered() {
     let mut random = Random(0xA5_0001);
-    let sources: Vec<Vec<char>> = EXAMPLES.iter().map(|example| source(example).chars().collect()).collect();
+    let written = EXAMPLES.iter().map(|example| source(example));
+    let listed = EXAMPLES.iter().map(|example| listing(&image(example), example));
+    let sources: Vec<Vec<char>> = written.chain(listed).map(|text| text.chars().collect()).collect();
     for _ in 0..3000 {
         let mut text = random.pick(&sources).clone();
         for _ in 0..1 + random.below(8) {
@@ -143,6 +145,7 @@ fn large_numbers_take_no_room() {
         "EQU a = 1+1, b = a+a, c = b+b, d = c+c, e = d+d, f = e+e, g = f+f, h = g+g, i = h+h, j = i+i, k = j+j, l = k+k, m = l+l\nDD W m,m",
         "SEG 200h AT FFFFFFFFh\na: JUMP b\nb: JUMP a",
         "ALI 24\nDD B 1",
+        "0200 99999999999999999999*00 | HALT\n0201 9999999999*00 | HALT\nFFFFFFFFF 00 | HALT\n0202 16777216*00 | a:\nMEMORY 1000000h",
     ] {
         answers(text);
     }

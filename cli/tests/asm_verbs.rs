@@ -152,7 +152,7 @@ fn what_goes_wrong_has_a_sentence_and_a_status() {
     let (bad, text) = (scratch("bad.mi"), scratch("text.mi"));
     std::fs::write(&bad, "  JUMP nowhere\n  MOVE W R1\n").expect("a file");
     std::fs::write(&text, b"HALT\n\xFF\xFE\n").expect("a file");
-    let cases: [(&[&str], i32, &str); 11] = [
+    let cases: [(&[&str], i32, &str); 12] = [
         (&["asm"], 64, "SOURCE"),
         (&["asm", "examples/sum.mi"], 64, "-o FILE"),
         (&["asm", "a", "b", "-o", "c"], 64, "too many"),
@@ -161,7 +161,8 @@ fn what_goes_wrong_has_a_sentence_and_a_status() {
         (&["asm", path(&bad), "-o", "c"], 65, "bad.mi:1:8: there is no name 'nowhere'"),
         (&["asm", path(&text), "-o", "c"], 65, "text.mi:2: this line is no text"),
         (&["asm", "no/such.mi", "-o", "c"], 66, "No such file or directory\n"),
-        (&["asm", "examples/sum.mi", "--output="], 64, "needs the name of a file"),
+        (&["asm", "examples/sum.mi", "-o", ""], 64, "-o needs the name of a file"),
+        (&["asm", "examples/sum.mi", "--output="], 64, "--output needs a value, FILE"),
         (&["list", "no/such.bin"], 66, "no/such.bin: cannot be read"),
         (&["list", path(&bad)], 65, "bad.mi:2:3: MOVE W has 2 operands, found 1"),
     ];

@@ -6,7 +6,7 @@ use desk::atlas;
 use desk::diagnose::{self, Finding};
 use desk::machine::Machine;
 use midesk::{numbers, Desk, Event, Mark};
-use support::{images, said, written, Random};
+use support::{desk, images, said, text, written, Random};
 
 /// An image of two frames with this code at 200h, run to its stop.
 fn stopped(code: &[u8]) -> (Desk, Vec<u8>) {
@@ -103,21 +103,53 @@ fn source(program: &str, page: &str) -> String {
 #[test]
 fn alarms_of_a_program_in_words() {
     let cases = [
-        ("MOVE W R0,400h", "FRAME 4, WRITE", "cause 8: an address past the map, address 400h (page 2)", "there is no page 2 in map m: it has 2 pages, up to address 3FFh"),
-        ("MOVE W 200h,R0", "ABSENT", "cause 9: an absent page, address 200h (page 1)", "page 1 is absent in map m (entry at 404h: 00000000h)"),
-        ("MOVE W 200h,R0", "FRAME 9, READ", "cause 10: a damaged map entry, address 200h (page 1)", "page 1 is damaged in map m: it names frame 9, and the memory has 5 (entry at 404h)"),
-        ("MOVE W R0,204h", "FRAME 4, READ", "cause 11: a write to a page without the right to write, address 204h (page 1)", "page 1 is frame 4, which may only be read, in map m (entry at 404h: 80000004h; C0000004h would let it be written)"),
-        ("DD B FFh", "ABSENT", "cause 12: an unknown command byte, FFh", "no command has the byte FFh"),
-        ("HALT", "ABSENT", "cause 13: a command that only kernel mode has, HALT", "HALT is for kernel mode; a program ends by a system call"),
-        ("DD B 70h,2,0,0,0,0,0", "ABSENT", "cause 14: an operand that breaks a rule, operand 1", "operand 1 of JUMP (six bytes at 1): form 2, as in `R1`, has no address, and one is needed"),
-        ("DIV W I 0,R1", "ABSENT", "cause 15: DIV by zero", "the divisor, which is the first operand, is 0"),
+        (
+            "MOVE W R0,400h",
+            "FRAME 4, WRITE",
+            "cause 8: alarm 8, an address past the map, address 400h (page 2)",
+            "there is no page 2 in map m: it has 2 pages, up to address 3FFh",
+        ),
+        (
+            "MOVE W 200h,R0",
+            "ABSENT",
+            "cause 9: alarm 9, an absent page, address 200h (page 1)",
+            "page 1 is absent in map m (entry at 404h: 00000000h)",
+        ),
+        (
+            "MOVE W 200h,R0",
+            "FRAME 9, READ",
+            "cause 10: alarm 10, a damaged map entry, address 200h (page 1)",
+            "page 1 is damaged in map m: it names frame 9, and the memory has 5 (entry at 404h)",
+        ),
+        (
+            "MOVE W R0,204h",
+            "FRAME 4, READ",
+            "cause 11: alarm 11, a write to a page without the right to write, address 204h (page 1)",
+            "page 1 is frame 4, which may only be read, in map m (entry at 404h: 80000004h)",
+        ),
+        ("DD B FFh", "ABSENT", "cause 12: alarm 12, an unknown command byte, FFh", "no command has the byte FFh"),
+        (
+            "HALT",
+            "ABSENT",
+            "cause 13: alarm 13, a command that only kernel mode has, HALT",
+            "HALT is for kernel mode; a program ends by a system call",
+        ),
+        (
+            "DD B 70h,2,0,0,0,0,0",
+            "ABSENT",
+            "cause 14: alarm 14, an operand that breaks a rule, operand 1",
+            "operand 1 of JUMP (six bytes at 1): form 2, as in `R1`, has no address, and one is needed",
+        ),
+        ("DIV W I 0,R1", "ABSENT", "cause 15: alarm 15, DIV by zero", "the divisor, which is the first operand, is 0"),
     ];
     for (program, page, cause, look) in cases {
         let file = written("alarm.mi", source(program, page).as_bytes());
-        let (out, status) = said(&["run", &file]);
-        assert_eq!(status, 16, "{program}: {out}");
+        // The assembler warns of a frame past the memory.
+        let output = desk(&["run", &file]);
+        let out = text(&output.stdout);
+        assert_eq!(output.status.code(), Some(16), "{program}: {out}");
         let joined = out.replace("\n    ", " ");
-        for words in [cause, look, "command: program block at go (0): ", "missing: the system block's entry for cause"]
+        for words in [cause, look, "command: program block at go (0): ", "stop 16: the system block's entry for cause"]
         {
             assert!(joined.contains(words), "{program}: '{words}' is not in\n{joined}");
         }
@@ -134,7 +166,10 @@ fn words(name: &str, code: &str) -> String {
 #[test]
 fn a_jump_gone_astray_is_told() {
     let astray = words("astray.mi", "start:  JUMP 5000h\n");
-    assert!(astray.contains("stop 8 after 2 steps, in kernel mode: address 5000h is past the memory"), "{astray}");
+    assert!(
+        astray.contains("stop 8 after 2 steps: alarm 8 in kernel mode, address 5000h is past the memory"),
+        "{astray}"
+    );
     assert!(astray.contains("came from: the kernel at start (200h): JUMP"), "{astray}");
     let into_data = words("data.mi", "start:  CLEAR W R0\n        DD B FFh\n");
     assert!(into_data.contains("came from: the kernel at start (200h): CLEAR W R0 (line 2)"), "{into_data}");
@@ -158,4 +193,43 @@ fn a_stack_that_is_not_set_up_is_told() {
             "{code}"
         );
     }
+}
+
+/// A kernel without entries and a program that may write page 2 and only read page 3, run: the lines of the address and the map.
+fn addressed(program: &str) -> (String, String) {
+    let source = format!(
+        "        SEG 0\n        SYSTEM BLOCK\n        SEG 100h\nblock:  CONTROL BLOCK START go, MAP m\n\
+         \x20       SEG 200h\nstart:  RESUME block\n        SEG 400h\nm:      MAP\n        PAGE 0: FRAME OF go, READ\n\
+         \x20       PAGE 1: ABSENT\n        PAGE 2: FRAME 4, WRITE\n        PAGE 3: FRAME 5, READ\n\
+         \x20       SEG 600h AT 0\ngo:     {program}\n        MEMORY C00h\n"
+    );
+    let file = written("addressed.mi", source.as_bytes());
+    let out = said(&["run", &file]).0.replace("\n    ", " ");
+    let line = |label: &str| {
+        let found = out.lines().find_map(|line| line.trim_start().strip_prefix(label));
+        found.unwrap_or_else(|| panic!("no '{label}' in\n{out}")).to_string()
+    };
+    (line("address: "), line("map: "))
+}
+
+/// What gave an address, and where it lies to the pages that could have been used; the map's entry is told as a fact.
+#[test]
+fn addresses_are_told_with_what_gave_them() {
+    let cases = [
+        ("MOVE W I 400h,R1\nloop:   MOVE W I 7,!R1+\n        JUMP loop", "600h is from operand 2, !R1+ (R1 is 600h); it is the first byte after page 2 (400h to 5FFh), which may be written; R1, which the command steps up, is past its end"),
+        ("MOVE W I 600h,R1\n        MOVE W I 7,!R1", "600h is from operand 2, !R1 (R1 is 600h); it is the first byte after page 2 (400h to 5FFh), which may be written; R1 is past its end"),
+        ("MOVE W I 5FEh,R1\n        MOVE W I 7,!R1", "600h is one of the 4 bytes from 5FEh on, of operand 2, !R1 (R1 is 5FEh); it is the first byte after page 2 (400h to 5FFh), which may be written; R1 is past its end"),
+        ("MOVE W I 600h,R1\n        MOVE W I 2,R2\n        MOVE W I 7,4+!R1/R2/", "60Ch is from operand 2, 4+!R1/R2/ (R1 is 600h, R2 is 2); it is 13 bytes past the end of page 2 (400h to 5FFh), which may be written"),
+        ("MOVE W I 400h,SP\nloop:   CALL loop", "3FCh is from the word that CALL puts on the stack (SP is 400h); it is 4 bytes before the start of page 2 (400h to 5FFh), which is there; SP, which the command steps down, goes before its start"),
+        ("MOVE W I 400h,R3\n        MOVE H I 1,-!R3", "3FEh is from operand 2, -!R3 (R3 is 400h); it is 2 bytes before the start of page 2 (400h to 5FFh), which is there; R3, which the command steps down, goes before its start"),
+        ("MOVE W I 780h,R1\n        MOVE W I 7,!R1", "780h is from operand 2, !R1 (R1 is 780h); only page 2 (400h to 5FFh) may be written"),
+        ("MOVE W R0,go", "0 is operand 2, go; only page 2 (400h to 5FFh) may be written"),
+        ("MOVE W !(800h+!R1),R2", "800h is from the pointer of operand 1, !(800h+!R1) (R1 is 0); it is the first byte after page 3 (600h to 7FFh), which is there"),
+        ("JUMP 240h", "240h is from R15, where the next command is read"),
+    ];
+    for (program, words) in cases {
+        assert_eq!(addressed(program).0, words, "{program}");
+    }
+    let (_, map) = addressed(cases[0].0);
+    assert_eq!(map, "page 3 is frame 5, which may only be read, in map m (entry at 40Ch: 80000005h)");
 }

@@ -100,3 +100,27 @@ fn every_line_is_an_object_with_the_documented_fields() {
         }
     }
 }
+
+/// The causes of stops by number, requests not made, and errors as objects.
+#[test]
+fn stops_requests_and_errors_have_their_numbers() {
+    let (out, status) = said(&["run", &file("tests/trace/stop_16.hex"), "--json", "--request", "3@99"]);
+    assert_eq!(status, 16);
+    assert!(out.contains(r#""end":"stop","number":16,"cause":"#) && !out.contains(r#""cause":null"#), "{out}");
+    assert!(out.contains(r#""not_made":[{"step":99,"level":3}]"#), "{out}");
+    for (arguments, exit, words) in [
+        (&["run", "there/is/none.mi", "--json"][..], 66, "there/is/none.mi: cannot be read"),
+        (&["run", "--json", "--fly"], 64, "there is no option '--fly'"),
+        (&["run", &example("sum"), "--json", "--memory", "1025"], 33, "refusal 1"),
+    ] {
+        let output = support::desk(arguments);
+        assert_eq!(output.status.code(), Some(exit));
+        let line = support::text(&output.stdout);
+        assert_eq!(value(line.trim_end()), Some(""), "{line}");
+        assert!(
+            line.starts_with(&format!(r#"{{"end":"error","exit":{exit},"words":""#)) && line.contains(words),
+            "{line}"
+        );
+        assert!(support::text(&output.stderr).contains(words));
+    }
+}

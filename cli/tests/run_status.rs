@@ -54,8 +54,9 @@ fn refusals_are_told() {
 #[test]
 fn arguments_that_do_not_fit() {
     let example = example("sum");
-    let cases: [(&[&str], &str); 11] = [
-        (&["--stpes", "3"], "there is no option '--stpes'; did you mean --steps?"),
+    let question = refused(&["run", &example, "--stpes", "3"]).0;
+    assert_eq!(question, "desk run: there is no option '--stpes'; did you mean --steps? `desk help run` tells more\n");
+    let cases: [(&[&str], &str); 13] = [
         (&["--steps"], "--steps needs a value, N"),
         (&["--steps", "-3"], "--steps needs a number such as 1000 or 3E8h, and '-3' is none"),
         (&["--memory", "512"], "--memory 512 is less than the 1024 bytes of the file"),
@@ -63,9 +64,12 @@ fn arguments_that_do_not_fit() {
         (&["--request", "5"], "--request needs LEVEL@STEP, such as 5@20, and '5' is none"),
         (&["--request", "16@1"], "--request has the level 16, and levels are 1 to 15"),
         (&["--request", "5@0"], "--request counts steps from 1"),
-        (&["--until", "nowhere"], "'nowhere' is neither an address such as 410h nor a name of the file, nor `entry`"),
+        (&["--until", "nowhere"], "'nowhere' is neither `entry` nor an address: one is a number such as 410h or a name of the file such as loop"),
         (&["--until", "entry:7"], "'entry:7' names no cause: 1, 8 to 15 or 17 to 31"),
-        (&["--dump", "x,y"], "--dump needs ADDRESS[,COUNT], such as 410h or block,80, and 'x,y' is none"),
+        (&["--dump", "x,y"], "--dump x,y: the count is no number such as 80"),
+        (&["--dump", "A00,8"], "--dump A00,8: 'A00' is no address: a hexadecimal number is written with h, A00h"),
+        (&["--steps="], "--steps needs a value, N"),
+        (&["--steps", "1,00"], "--steps needs a number such as 1000 or 3E8h, and '1,00' is none"),
     ];
     for (options, sentence) in cases {
         let mut arguments = vec!["run", &example];

@@ -62,8 +62,9 @@ fn meant(word: &str) -> String {
     if MI_ALONE.split(' ').any(|name| name == word) {
         return "MI has this command, the desk does not".to_string();
     }
-    let names = table::commands().map(|command| command.name).filter(|name| name.chars().next() == word.chars().next());
-    match options::nearest(word, names).filter(|_| word.len() > 2) {
+    let names =
+        table::commands().map(|command| command.name).filter(|name| name.chars().next() == capitals.chars().next());
+    match options::nearest(&capitals, names).filter(|_| word.len() > 2) {
         Some(name) => format!("did you mean {name}?"),
         None => "expected a command, a directive, or a name with ':' behind it".to_string(),
     }
@@ -173,7 +174,7 @@ fn within(cursor: &mut Cursor) -> Result<(u8, Option<Expression>), Fault> {
 
 fn direct(cursor: &mut Cursor, column: usize) -> Result<Written, Fault> {
     if cursor.peek_word().and_then(super::cursor::register).is_none() {
-        return cursor.expected("a register, '!' or '('");
+        return cursor.expected("a register (R0 to R15, SP, PC), '!' or '('");
     }
     let x = cursor.register()?;
     if cursor.take_mark('+') {

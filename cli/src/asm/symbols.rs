@@ -1,5 +1,6 @@
 //! The names of a source and what sums of them are.
 
+use super::cursor;
 use super::errors::{fault, Fault};
 use super::lexer::shown;
 use super::syntax::{Expression, Item};
@@ -174,7 +175,11 @@ impl Symbols {
 
     /// What is said of an unknown name. What it may mean is looked for only in sources of a common size.
     fn no_name(&self, name: &str) -> String {
-        if name.strip_prefix(['R', 'r']).is_some_and(|rest| rest.parse::<u32>().is_ok()) {
+        let capitals = name.to_ascii_uppercase();
+        if cursor::register(&capitals).is_some() {
+            return format!("there is no name '{name}'; the register is written {capitals}");
+        }
+        if capitals.strip_prefix('R').is_some_and(|rest| rest.parse::<u32>().is_ok()) {
             return format!("there is no register '{}': registers are R0 to R15", shown(name));
         }
         let few = self.labels.len() <= MOST_COMPARED;

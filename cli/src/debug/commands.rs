@@ -1,16 +1,19 @@
 //! The commands of the prompt: one table of names, help and what they do.
 
 use super::history::History;
-use super::{looks, moves};
+use super::{code, listing, looks, moves};
 use crate::atlas;
 use crate::machine::Machine;
 use crate::options;
+use std::collections::BTreeSet;
 use std::io::{self, Write};
 
 /// A desk at the prompt.
 pub struct Session {
     pub machine: Machine,
     pub history: History,
+    /// Where commands begin, of a file without a source: real addresses.
+    pub code: BTreeSet<u32>,
     /// The line that an empty one repeats.
     last: String,
     /// Where a repeated `memory` or `list` goes on.
@@ -76,14 +79,14 @@ const ROWS: &[Row] = &[
     row(&["where", "w"], "where, w", "shows how many steps are made and what is next", looks::place),
     row(&["registers"], "registers, i", "shows registers, mode, level, flags and blocks", looks::registers),
     row(&["memory", "x"], "memory [real] A [N], x", "shows N bytes (64) from an address on; x/N A shows N words", looks::memory),
-    row(&["list", "l"], "list [A] [N], l", "lists N commands (10) around R15 or from an address on", looks::list),
+    row(&["list", "l"], "list [A] [N], l", "lists N commands (10) around R15 or from an address on", listing::list),
     row(
         &["map"],
         "map [PROGRAM]",
         "shows a program's map in words; without a name that of the program that runs, in kernel mode of all",
         looks::map,
     ),
-    row(&["blocks", "b"], "blocks, b", "shows the system block and the control blocks", looks::blocks),
+    row(&["blocks"], "blocks", "shows the system block and the control blocks, with the registers that they hold saved", looks::blocks),
     row(&["info", "i"], "info [WHAT], i", "shows registers, map or blocks", looks::info),
     row(&["help", "h", "?"], "help [COMMAND], h, ?", "lists the commands, or tells of one", help),
     row(&["quit", "q", "exit"], "quit, q", "ends the dialogue", quit),
@@ -105,7 +108,8 @@ impl Session {
         if machine.known.programs.is_empty() {
             machine.known.programs = atlas::found_programs(&machine);
         }
-        Session { machine, history: History::new(), last: String::new(), onward: None }
+        let code = if machine.known.lines.is_empty() { code::found(&machine) } else { BTreeSet::new() };
+        Session { machine, history: History::new(), code, last: String::new(), onward: None }
     }
 
     /// Carries out a line.
@@ -131,7 +135,42 @@ impl Session {
     }
 }
 
+/// Commands of other debuggers, and what there is here instead.
+const ELSEWHERE: &[(&[&str], &str)] = &[
+    (
+        &["break", "b", "br", "tbreak", "breakpoint", "watch", "delete", "d", "advance"],
+        "`until WHERE` runs to an address, a name or a kernel entry; it holds once",
+    ),
+    (&["print", "p", "display", "inspect"], "`registers` shows registers, `memory A` memory, `list A` commands"),
+    (
+        &["set", "assign", "poke", "write"],
+        "state is changed by steps and undone by `undo`, nothing else; to change the program, change its source",
+    ),
+    (
+        &["next", "n", "stepi", "si", "nexti", "ni"],
+        "`step` makes one step; `until` with the address behind a CALL steps over it",
+    ),
+    (&["finish", "fin", "return", "up", "down"], "`until` with the address behind the CALL goes back to the caller"),
+    (
+        &["backtrace", "bt"],
+        "the desk keeps no list of calls; `where` shows what is next, `registers` where the stack is (SP)",
+    ),
+    (&["disassemble", "disas", "dis"], "`list [A] [N]` lists commands"),
+    (
+        &["start", "restart", "kill", "k", "load", "file"],
+        "`undo 100000` goes back to the start; another file needs another `desk debug`",
+    ),
+    (&["reverse-step", "rs", "reverse-continue", "rc", "reverse-stepi"], "`undo [N]` goes back"),
+    (
+        &["symbols", "names", "source", "frame", "f"],
+        "`desk list FILE` lists all with its names; `where` shows what is next",
+    ),
+];
+
 fn unknown(name: &str) -> String {
+    if let Some((_, words)) = ELSEWHERE.iter().find(|(names, _)| names.contains(&name)) {
+        return format!("there is no command '{name}' here: {words}");
+    }
     let names = ROWS.iter().flat_map(|row| row.names).filter(|name| name.len() > 2).copied();
     let name_shown = options::shown(name);
     match options::nearest(name, names) {
@@ -169,6 +208,7 @@ fn help(_: &mut Session, arguments: &[&str], out: &mut dyn Write) -> Done {
     }
     if arguments.is_empty() {
         writeln!(out, "  An empty line repeats the one before it; -- and # start a remark.")?;
+        writeln!(out, "  Ctrl-C ends all of desk, also in a long run; Ctrl-D is quit.")?;
     }
     Ok(())
 }
@@ -205,5 +245,7 @@ mod tests {
         names.dedup();
         assert_eq!(names.len(), all);
         assert!(ROWS.iter().all(|row| row.written.starts_with(row.names[0])));
+        let elsewhere = ELSEWHERE.iter().flat_map(|(names, _)| *names);
+        assert!(elsewhere.into_iter().all(|name| find(name).is_none()));
     }
 }

@@ -17,6 +17,8 @@ struct Record {
 /// The last steps and requests, oldest first.
 pub struct History {
     records: VecDeque<Record>,
+    /// Whether nothing before them was forgotten.
+    whole: bool,
 }
 
 /// How many steps and requests were undone.
@@ -28,7 +30,7 @@ pub struct Undone {
 
 impl History {
     pub fn new() -> History {
-        History { records: VecDeque::new() }
+        History { records: VecDeque::new(), whole: true }
     }
 
     pub fn step(&mut self, step: &Step) {
@@ -44,8 +46,14 @@ impl History {
     fn push(&mut self, record: Record) {
         if self.records.len() == MOST {
             self.records.pop_front();
+            self.whole = false;
         }
         self.records.push_back(record);
+    }
+
+    /// Whether undoing all that is remembered leads to the start.
+    pub fn is_whole(&self) -> bool {
+        self.whole
     }
 
     /// Undoes at most n steps or requests.

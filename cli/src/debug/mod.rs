@@ -1,7 +1,9 @@
 //! `desk debug FILE`: plain lines in, plain lines out, over a desk that can also go back.
 
+mod code;
 mod commands;
 mod history;
+mod listing;
 mod looks;
 mod moves;
 

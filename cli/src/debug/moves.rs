@@ -12,6 +12,8 @@ use std::io::Write;
 
 /// Steps of a `run` or `until` without a number.
 const LIMIT: u64 = 1_000_000;
+/// What is said where older steps cannot be undone.
+const FORGOTTEN: &str = "the steps before are not remembered; only the last 100,000 are";
 
 impl Session {
     /// A step that can be undone.
@@ -63,23 +65,37 @@ pub fn step(session: &mut Session, arguments: &[&str], out: &mut dyn Write) -> D
 pub fn run(session: &mut Session, arguments: &[&str], out: &mut dyn Write) -> Done {
     let n = count(arguments.first())?.unwrap_or(LIMIT);
     nothing_more(arguments.get(1..).unwrap_or_default())?;
-    go(session, n, &|_, _| false, out)
+    go(session, n, None, out)
 }
 
-/// Runs until something is reached; that step is shown.
-fn go(session: &mut Session, n: u64, reached: &dyn Fn(&Session, &Step) -> bool, out: &mut dyn Write) -> Done {
+/// Runs until something is reached, if that is asked for; that step is shown.
+fn go(session: &mut Session, n: u64, until: Option<&Until>, out: &mut dyn Write) -> Done {
     for _ in 0..n {
         let step = session.one()?;
         if let Event::Stopped(number) = step.event {
-            return session.stopped(number, out);
+            session.stopped(number, out)?;
+            return not_held(session, until, &End::Stopped(number), out);
         }
-        if reached(session, &step) {
+        if until.is_some_and(|until| is_reached(until, session, &step)) {
             session.show(&step, out)?;
             return looks::next(session, out);
         }
     }
     writeln!(out, "made {} without an end", words::steps(n))?;
+    not_held(session, until, &End::Limit, out)?;
     looks::next(session, out)
+}
+
+/// Why an `until` ended elsewhere.
+fn not_held(session: &Session, until: Option<&Until>, end: &End, out: &mut dyn Write) -> Done {
+    let machine = &session.machine;
+    let finding = report::finding(machine, end);
+    if let Some(words) = until.and_then(|until| until.not_held(&machine.known, end, finding)) {
+        for line in words::folded(&words, 2, 4) {
+            writeln!(out, "{line}")?;
+        }
+    }
+    Ok(())
 }
 
 pub fn until(session: &mut Session, arguments: &[&str], out: &mut dyn Write) -> Done {
@@ -91,7 +107,7 @@ pub fn until(session: &mut Session, arguments: &[&str], out: &mut dyn Write) -> 
         return run(session, &[], out);
     }
     let until = plan::until(first, &session.machine.known)?;
-    go(session, LIMIT, &|session, step| is_reached(&until, session, step), out)
+    go(session, LIMIT, Some(&until), out)
 }
 
 fn is_reached(until: &Until, session: &Session, step: &Step) -> bool {
@@ -105,6 +121,9 @@ fn is_reached(until: &Until, session: &Session, step: &Step) -> bool {
 pub fn undo(session: &mut Session, arguments: &[&str], out: &mut dyn Write) -> Done {
     let n = count(arguments.first())?.unwrap_or(1);
     nothing_more(arguments.get(1..).unwrap_or_default())?;
+    if n == 0 {
+        return Err("undo how many steps? At least 1".to_string().into());
+    }
     let undone = session.history.undo(&mut session.machine, n);
     let steps = (undone.steps > 0).then(|| words::steps(undone.steps));
     let requests = match undone.requests {
@@ -114,11 +133,17 @@ pub fn undo(session: &mut Session, arguments: &[&str], out: &mut dyn Write) -> D
     };
     let words: Vec<String> = steps.into_iter().chain(requests).collect();
     match words.is_empty() {
-        true => return Err("there is nothing to undo".to_string().into()),
+        true if session.history.is_whole() => {
+            return Err("there is nothing to undo: this is the start".to_string().into());
+        }
+        true => return Err(FORGOTTEN.to_string().into()),
         false => writeln!(out, "undone: {}", words.join(" and "))?,
     }
     if undone.steps + undone.requests < n {
-        writeln!(out, "more is not remembered")?;
+        match session.history.is_whole() {
+            true => writeln!(out, "this is the start")?,
+            false => writeln!(out, "{FORGOTTEN}")?,
+        }
     }
     looks::next(session, out)
 }
