@@ -1,8 +1,8 @@
 //! `list`: commands where there are commands, data as data.
 
-use super::code::in_program;
 use super::commands::{count, nothing_more, Done, Session};
 use super::looks::no_address;
+use crate::code::in_program;
 use crate::decode::Decoded;
 use crate::effect;
 use crate::hints;

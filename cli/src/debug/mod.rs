@@ -1,6 +1,5 @@
 //! `desk debug FILE`: plain lines in, plain lines out, over a desk that can also go back.
 
-mod code;
 mod commands;
 mod history;
 mod listing;
