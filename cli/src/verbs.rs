@@ -141,7 +141,7 @@ pub const VERBS: &[Verb] = &[
         text: &[
             Say("Lines in, lines out; there is a prompt where standard input is a terminal. `rlwrap desk debug FILE` gives it a history. A line that starts with `--` or `#` is a remark; an empty one repeats the line before it. Ctrl-C ends all of desk, also in a long run. The commands:"),
             Table(crate::debug::COMMANDS),
-            Say("An address is a number such as 410h, a name of the file, or a name and a distance, such as block+4. It is one of the present mode: in user mode a virtual one of the program that runs. `real` before it makes it a real one, and names of another mode lead to their real address."),
+            Say("An address is a number such as 410h, a name of the file, or a name and a distance, such as block+4. It is one of the present mode: in user mode a virtual one of the program that runs. `real` before it makes it a real one, and names of another mode lead to their real address; `list` shows those of a program with the program's addresses."),
             Say("A script with a line that is not understood is carried on with, and the exit status is then 65."),
         ],
     },

@@ -80,7 +80,7 @@ const ROWS: &[Row] = &[
     row(&["where", "w"], "where, w", "shows how many steps are made and what is next", looks::place),
     row(&["registers"], "registers, i", "shows registers, mode, level, flags and blocks", looks::registers),
     row(&["memory", "x"], "memory [real] A [N], x", "shows N bytes (64) from an address on; x/N A shows N words", looks::memory),
-    row(&["list", "l"], "list [A] [N], l", "lists N commands (10) around R15 or from an address on", listing::list),
+    row(&["list", "l"], "list [A] [N], l", "lists N lines (10) of commands and data, around R15 or from an address on", listing::list),
     row(
         &["map"],
         "map [PROGRAM]",
