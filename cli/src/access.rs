@@ -43,7 +43,7 @@ pub fn to(desk: &Desk, memory: &[u8], names: &Names, address: u32, write: bool) 
             let mut uses = all(desk, memory, names, &command).into_iter().filter(|access| access.covers(address));
             // The destination is the last operand.
             if write {
-                uses.last()
+                uses.next_back()
             } else {
                 uses.next()
             }

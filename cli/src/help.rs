@@ -50,7 +50,7 @@ pub fn overview() -> String {
     let width = VERBS.iter().map(|verb| synopsis(verb).len()).max().unwrap_or(0);
     lines.extend(VERBS.iter().flat_map(|verb| row(&synopsis(verb), verb.summary, width)));
     lines.push(String::new());
-    let more = "`desk help VERB` tells a verb's options, `desk help stops` what the numbers of stops and alarms mean, `desk help --man` writes the man page.";
+    let more = "`desk help VERB` tells a verb's options, `desk help stops` what the numbers of stops and alarms mean, `desk help memory` what pages, maps and blocks are, `desk help --man` writes the man page.";
     lines.extend(wrapped(more, 0));
     for topic in TOPICS.iter().filter(|topic| topic.in_overview) {
         lines.push(String::new());

@@ -6,6 +6,7 @@ pub mod access;
 pub mod asm;
 pub mod atlas;
 pub mod blocks;
+pub mod code;
 pub mod debug;
 pub mod decode;
 pub mod diagnose;

@@ -170,7 +170,7 @@ impl Until {
             }
             (Until::Entry(None), None) => "not held: no kernel entry came".to_string(),
             (Until::Entry(Some(cause)), _) => format!("not held: no kernel entry of cause {cause} came"),
-            (Until::Place(place), _) => format!("not held: {} was not reached", place.words(known)),
+            (Until::Place(place), _) => format!("not held: no step led to {}", place.words(known)),
         })
     }
 

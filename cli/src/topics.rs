@@ -27,10 +27,10 @@ pub const TOPICS: &[Topic] = &[
             Say("FILE is told by its ending:"),
             Table(&[
                 (".mi", "a source in MI's notation; `desk help asm` tells of it"),
-                (".hex", "commented hexadecimal, as tools/bytes reads it"),
+                (".hex", "bytes in hexadecimal digits, 64*00 for 64 times 00, remarks from # on"),
                 ("others", "the bytes themselves, from real address 0 on; where they look like text the name must end in .bin"),
             ]),
-            Say("Where the file does not say otherwise, the system block is at 0, the control block at 100h, and the desk starts at 200h in kernel mode, as under `trace`. docs/MACHINE.md is the machine's manual."),
+            Say("Where the file does not say otherwise, the system block is at 0, the control block at 100h, and the desk starts at 200h in kernel mode, as under the repository's `trace`. The machine's manual is docs/MACHINE.md in the repository; `desk help memory` and `desk help stops` tell the most needed of it."),
         ],
     },
     Topic {
@@ -38,6 +38,12 @@ pub const TOPICS: &[Topic] = &[
         title: "NUMBERS",
         in_overview: true,
         text: &[Say("A number is decimal, or hexadecimal with h at its end: 410h, also 0x410 and H'410'. In what `desk` writes, a number that ends in h is hexadecimal, a row of eight digits too, and all before the bar of a listing but the number before `*`; any other is decimal.")],
+    },
+    Topic {
+        name: "memory",
+        title: "MEMORY, PAGES, MAPS",
+        in_overview: false,
+        text: MEMORY,
     },
     Topic {
         name: "stops",
@@ -55,7 +61,7 @@ pub const TOPICS: &[Topic] = &[
         name: "examples",
         title: "EXAMPLES",
         in_overview: true,
-        text: &[Show(
+        text: &[Say("The files are in the repository."), Show(
             "desk run examples/minimum.mi\n\
              desk run examples/user_mode.mi --trace\n\
              desk run examples/user_mode.mi --until entry:11 --dump 800h,4\n\
@@ -64,6 +70,19 @@ pub const TOPICS: &[Topic] = &[
              desk picture examples/isolation.mi -o isolation.svg",
         )],
     },
+];
+
+/// Sizes, frames, pages and blocks, as the manual has them.
+const MEMORY: &[Text] = &[
+    Say("The sizes are B, 1 byte, H, 2 bytes, and W, a word of 4 bytes. A value's highest byte comes first (big-endian): the word 01020304h is stored as 01 02 03 04. Commands and values may stand at any address."),
+    Say("The memory is a row of frames of 512 bytes: frame f has the real addresses from 512 x f on. The kernel uses real addresses. A program uses virtual ones, in pages of 512 bytes, and its map says to which frame each page leads: page p has the addresses from 512 x p on, and the word at map base + 4 x p is its entry:"),
+    Table(&[
+        ("80000000h", "the page is there; without this bit the entry is absent"),
+        ("40000000h", "it may be written; every page that is there may be read and run"),
+        ("3F000000h", "these bits must be 0"),
+        ("00FFFFFFh", "the frame's number"),
+    ]),
+    Say("The system block has 256 bytes: for cause c, at 8 x c, the R15 and the status word with which the kernel is entered. The status must have 80000000h and may have level and flags; with any other the desk stops with 16. A control block has 80 bytes: R0 to R15, the status (at 64), the argument of the last entry (68), map base (72) and map length in pages (76). A kernel entry saves the registers there, RESUME loads them."),
 ];
 
 /// Stops, alarms and causes, as the manual has them.
@@ -78,7 +97,7 @@ const STOPS: &[(&str, &str)] = &[
     ("13", "alarm: HALT or RESUME in user mode, a system call in kernel mode; argument: the byte"),
     ("14", "alarm: an operand breaks a rule of its form, or RESUME's block cannot be used; argument: the operand's place, from 1"),
     ("15", "alarm: DIV by zero; argument: 0"),
-    ("16", "stop: a kernel entry finds no valid kernel status in the system block"),
+    ("16", "stop: an alarm, a system call or an interrupt came, and the system block has no valid kernel status for it"),
     ("17 to 31", "cause: an interrupt of level 1 to 15; argument: the level"),
 ];
 

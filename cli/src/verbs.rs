@@ -85,7 +85,7 @@ pub const VERBS: &[Verb] = &[
             with(
                 "--until",
                 "WHERE",
-                "ends before the command at an address or name, or after a kernel entry: `entry`, or `entry:11` for one cause",
+                "ends before the command at an address or name, or after a kernel entry: `entry`, or `entry:11` for one cause. An alarm for which the system block has no entry is stop 16, and no kernel entry",
             ),
             many("--dump", "ADDRESS[,COUNT]", "shows COUNT bytes of memory (64) at the end, from a real address or a name on"),
             flag("--json", "a JSON object for each line of output"),
@@ -139,9 +139,9 @@ pub const VERBS: &[Verb] = &[
             START,
         ],
         text: &[
-            Say("Lines in, lines out; there is a prompt where standard input is a terminal. `rlwrap desk debug FILE` gives it a history. A line that starts with `--` or `#` is a remark; an empty one repeats the line before it. The commands:"),
+            Say("Lines in, lines out; there is a prompt where standard input is a terminal. `rlwrap desk debug FILE` gives it a history. A line that starts with `--` or `#` is a remark; an empty one repeats the line before it. Ctrl-C ends all of desk, also in a long run. The commands:"),
             Table(crate::debug::COMMANDS),
-            Say("An address is a number such as 410h, a name of the file, or a name and a distance, such as block+4. It is one of the present mode: in user mode a virtual one of the program that runs. `real` before it makes it a real one, and names of another mode lead to their real address."),
+            Say("An address is a number such as 410h, a name of the file, or a name and a distance, such as block+4. It is one of the present mode: in user mode a virtual one of the program that runs. `real` before it makes it a real one, and names of another mode lead to their real address; `list` shows those of a program with the program's addresses."),
             Say("A script with a line that is not understood is carried on with, and the exit status is then 65."),
         ],
     },
@@ -171,7 +171,7 @@ pub const VERBS: &[Verb] = &[
         summary: "assembles a source in MI's notation",
         options: &[output("the file for the bytes")],
         text: &[
-            Say("Errors come with line, column, what was found and what was expected, several in one go. docs/MACHINE.md tells more of the language, under Sources; examples/ has programs."),
+            Say("Errors come with line, column, what was found and what was expected, several in one go. In the repository docs/MACHINE.md tells more of the language, under Sources, and examples/ has programs."),
             Table(crate::asm::reference::LINES),
             Say("Operands. The destination is the last one."),
             Table(&crate::forms::SUMMARY),

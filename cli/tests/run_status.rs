@@ -35,6 +35,30 @@ fn limits_and_until() {
     assert_eq!(self::status(&["run", &example, "--until", "900h"]), 0);
 }
 
+/// An end that --until did not wait for is told; an alarm that becomes stop 16 is no kernel entry.
+#[test]
+fn an_until_that_did_not_hold_is_told() {
+    let (user_mode, past_end) = (example("user_mode"), file("cli/tests/scripts/past_end.hex"));
+    for (arguments, words) in [
+        (&["run", &user_mode, "--until", "900h"][..], "not held: no step led to the command at 900h\n"),
+        (
+            &["run", &user_mode, "--until", "finish", "--steps", "3"],
+            "not held: no step led to the kernel's command at finish (249h)\n",
+        ),
+        (&["run", &user_mode, "--until", "entry:9"], "not held: no kernel entry of cause 9 came\n"),
+        (
+            &["run", &past_end, "--until", "entry:11"],
+            "not held: alarm 11 came, but as stop 16, and not as a kernel entry\n",
+        ),
+        (&["run", &past_end, "--until", "entry"], "not held: no kernel entry came; alarm 11 came, but as stop 16\n"),
+        (&["run", &past_end, "--until", "entry:9"], "not held: no kernel entry of cause 9 came\n"),
+    ] {
+        let (out, _) = said(arguments);
+        assert!(out.contains(words), "'{words}' is not in\n{out}");
+    }
+    assert!(!said(&["run", &user_mode, "--until", "finish"]).0.contains("not held"));
+}
+
 #[test]
 fn refusals_are_told() {
     let example = example("sum");
@@ -93,7 +117,7 @@ fn files_that_are_not_usable() {
     let (sentence, status) = refused(&["picture", &example("sum"), "-o", "no/such/folder/x.svg"]);
     assert!(status == 74 && sentence.contains("cannot be written"), "{sentence}");
     let (sentence, status) = refused(&["debug", &example("sum"), "--script", "no/such/script"]);
-    assert!(status == 66 && sentence.contains("cannot be read"), "{sentence}");
+    assert_eq!((sentence.as_str(), status), ("no/such/script: cannot be read: No such file or directory\n", 66));
 }
 
 #[test]

@@ -1,8 +1,9 @@
 //! The commands of the prompt: one table of names, help and what they do.
 
 use super::history::History;
-use super::{code, listing, looks, moves};
+use super::{listing, looks, moves};
 use crate::atlas;
+use crate::code;
 use crate::machine::Machine;
 use crate::options;
 use std::collections::BTreeSet;
@@ -12,7 +13,7 @@ use std::io::{self, Write};
 pub struct Session {
     pub machine: Machine,
     pub history: History,
-    /// Where commands begin, of a file without a source: real addresses.
+    /// Where commands begin: real addresses.
     pub code: BTreeSet<u32>,
     /// The line that an empty one repeats.
     last: String,
@@ -79,7 +80,7 @@ const ROWS: &[Row] = &[
     row(&["where", "w"], "where, w", "shows how many steps are made and what is next", looks::place),
     row(&["registers"], "registers, i", "shows registers, mode, level, flags and blocks", looks::registers),
     row(&["memory", "x"], "memory [real] A [N], x", "shows N bytes (64) from an address on; x/N A shows N words", looks::memory),
-    row(&["list", "l"], "list [A] [N], l", "lists N commands (10) around R15 or from an address on", listing::list),
+    row(&["list", "l"], "list [A] [N], l", "lists N lines (10) of commands and data, around R15 or from an address on", listing::list),
     row(
         &["map"],
         "map [PROGRAM]",
@@ -108,7 +109,7 @@ impl Session {
         if machine.known.programs.is_empty() {
             machine.known.programs = atlas::found_programs(&machine);
         }
-        let code = if machine.known.lines.is_empty() { code::found(&machine) } else { BTreeSet::new() };
+        let code = code::known(&machine);
         Session { machine, history: History::new(), code, last: String::new(), onward: None }
     }
 

@@ -1,8 +1,8 @@
 //! `list`: commands where there are commands, data as data.
 
-use super::code::in_program;
 use super::commands::{count, nothing_more, Done, Session};
 use super::looks::no_address;
+use crate::code::in_program;
 use crate::decode::Decoded;
 use crate::effect;
 use crate::hints;
@@ -33,7 +33,8 @@ pub fn list(session: &mut Session, arguments: &[&str], out: &mut dyn Write) -> D
         Some(text) => viewed(machine, text)?,
         None => (machine.desk.clone(), None),
     };
-    let view = View { machine, code: &session.code, desk: &desk };
+    let lines = machine.known.lines.iter().map(|line| line.address).collect();
+    let view = View { machine, code: &session.code, lines, desk: &desk };
     if desk != machine.desk && session.onward.is_none() {
         writeln!(out, "{}, {} addresses:", machine.known.who(&desk), if desk.is_kernel() { "real" } else { "its" })?;
     }
@@ -72,7 +73,9 @@ fn viewed(machine: &Machine, text: &str) -> Result<(Desk, Option<u32>), String> 
 /// The memory with the addresses of a mode.
 struct View<'a> {
     machine: &'a Machine,
+    /// Where commands begin, and where lines of the source do: real addresses.
     code: &'a BTreeSet<u32>,
+    lines: BTreeSet<u32>,
     desk: &'a Desk,
 }
 
@@ -98,8 +101,7 @@ impl View<'_> {
     }
 
     fn is_command(&self, at: u32) -> bool {
-        let known = self.real(at).is_some_and(|real| self.code.contains(&real));
-        self.is_next(at) || known || self.source(at).is_some_and(|line| line.is_command)
+        self.is_next(at) || self.real(at).is_some_and(|real| self.code.contains(&real))
     }
 
     /// A line of the list, and where the next one starts.
@@ -123,7 +125,8 @@ impl View<'_> {
 
     /// Bytes up to the next label, command or line of the source: some of them, or a row of zeros.
     fn data(&self, at: u32) -> (String, u32) {
-        let ends = |at: u32| self.names().name_of(at).is_some() || self.is_command(at) || self.source(at).is_some();
+        let line = |at: u32| self.real(at).is_some_and(|real| self.lines.contains(&real));
+        let ends = |at: u32| self.names().name_of(at).is_some() || self.is_command(at) || line(at);
         let more = |i: &u32| *i == 0 || !ends(at.wrapping_add(*i));
         let zero = |i: &u32| self.byte(at.wrapping_add(*i)) == Some(0);
         let mut zeros = (0..MOST as u32).take_while(|i| more(i) && zero(i)).count() as u32;

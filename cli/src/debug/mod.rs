@@ -1,6 +1,5 @@
 //! `desk debug FILE`: plain lines in, plain lines out, over a desk that can also go back.
 
-mod code;
 mod commands;
 mod history;
 mod listing;
@@ -44,7 +43,7 @@ pub fn main(arguments: &[String]) -> u8 {
                 dialogue(machine, &mut BufReader::new(file), &mut out, place, echo)
             }
             Err(error) => {
-                output::err(&format!("{}: cannot be read: {error}\n", options::shown(script)));
+                output::err(&format!("{}: cannot be read: {}\n", options::shown(script), output::reason(&error)));
                 return output::NO_INPUT;
             }
         },

@@ -4,9 +4,11 @@ use super::rows::{self, Row};
 use super::svg::{cut, Box, Style, Svg};
 use crate::atlas::{Atlas, Mapped};
 use crate::blocks::{self, Kind, Thing};
+use crate::code;
 use crate::hints;
 use crate::machine::Machine;
 use crate::notation::hexadecimal;
+use crate::view;
 use crate::words;
 
 pub const INK: &str = "#1A1A1A";
@@ -16,6 +18,9 @@ pub const PAPER: &str = "#FFFFFF";
 pub const KERNEL: &str = "#E9E9E9";
 pub const SHARED: &str = "#FFE7AE";
 pub const SHARED_LINE: &str = "#8A5A00";
+/// Bytes of commands, and others that are not zero.
+pub const CODE: &str = "#1A1A1A";
+pub const DATA: &str = "#8C8C8C";
 /// A colour for each program; their shades differ in grey too.
 pub const COLOURS: [&str; 6] = ["#005B96", "#A63C00", "#006B4F", "#7A3E87", "#5B4A00", "#2F4F4F"];
 
@@ -40,14 +45,43 @@ pub struct Drawing<'a> {
     pub atlas: &'a Atlas,
     pub things: Vec<Thing>,
     pub columns: usize,
+    /// For each byte whether it belongs to a command.
+    pub code: Vec<bool>,
+    pub starts: Vec<Start>,
+}
+
+/// Where the desk or a program starts: its real address, and words.
+pub struct Start {
+    pub real: u32,
+    pub words: String,
+    pub program: Option<usize>,
+}
+
+/// The starts, as far as they lead anywhere; of programs only before the first step, since they move.
+fn starts(machine: &Machine, fresh: &Machine, atlas: &Atlas) -> Vec<Start> {
+    let start = fresh.desk.register(15);
+    let words = format!("start of the desk: {}", fresh.known.real_place(start));
+    let mut starts = vec![Start { real: start, words, program: None }];
+    if machine.steps > 0 {
+        return starts;
+    }
+    for (place, program) in atlas.programs.iter().enumerate() {
+        let real = view::real(&machine.memory, program.map_base, program.map_length, program.start);
+        if let Ok((real, _)) = real {
+            let words = format!("start of {}: {}", program.name, hexadecimal(program.start));
+            starts.push(Start { real, words, program: Some(place) });
+        }
+    }
+    starts
 }
 
 /// The picture.
-pub fn picture(machine: &Machine, atlas: &Atlas, title: &str) -> String {
+pub fn picture(machine: &Machine, fresh: &Machine, atlas: &Atlas, title: &str) -> String {
     let things = blocks::things(machine, atlas);
     let (rows, left_out) = rows::rows(machine, atlas, &things);
     let columns = atlas.programs.len().min(MOST_PROGRAMS);
-    let mut drawing = Drawing { svg: Svg::new(), machine, atlas, things, columns };
+    let (code, starts) = (code::bytes(fresh), starts(machine, fresh, atlas));
+    let mut drawing = Drawing { svg: Svg::new(), machine, atlas, things, columns, code, starts };
     let width = CELLS_X + COLUMN * columns.max(1) as i64 + REMARKS + MARGIN;
     let mut y = HEAD;
     let mut tops = Vec::new();
@@ -55,7 +89,7 @@ pub fn picture(machine: &Machine, atlas: &Atlas, title: &str) -> String {
         tops.push(y);
         y += drawing.height(row);
     }
-    let height = y + drawing.foot_height(left_out) + 96;
+    let height = y + drawing.foot_height(left_out) + 120;
     drawing.svg.rect(Box { x: 0, y: 0, width, height }, PAPER, "none", "");
     drawing.head(title);
     for (row, top) in rows.iter().zip(&tops) {
@@ -63,7 +97,7 @@ pub fn picture(machine: &Machine, atlas: &Atlas, title: &str) -> String {
     }
     drawing.links(&rows, &tops);
     drawing.foot(y, left_out);
-    drawing.legend(height - 84, width);
+    drawing.legend(height - 108, width);
     let description = format!("Frames as rows, programs as columns. {}", subtitle(machine, atlas));
     drawing.svg.file(width, height, &format!("Memory of {title}"), &description)
 }
@@ -94,7 +128,7 @@ impl Drawing<'_> {
         self.svg.text(MARGIN, 60, Style::plain(13, FAINT), &subtitle);
         let label = Style::plain(12, FAINT);
         self.svg.text(MARGIN, HEAD - 12, label, "frame, address");
-        self.svg.text(MEMORY_X, HEAD - 12, label, "what is there: 512 bytes from left to right");
+        self.svg.text(MEMORY_X, HEAD - 12, label, "what is there: bytes from left to right");
         for place in 0..self.columns {
             if let Some(program) = self.atlas.programs.get(place) {
                 self.program_head(place, program);

@@ -1,7 +1,8 @@
 //! Below the frames: where the memory ends, pages that lead nowhere, the legend.
 
 use super::draw::{
-    column_x, Drawing, COLOURS, COLUMN, FAINT, INK, KERNEL, LINE, MARGIN, MEMORY_X, PAPER, SHARED, SHARED_LINE,
+    column_x, Drawing, CODE, COLOURS, COLUMN, DATA, FAINT, INK, KERNEL, LINE, MARGIN, MEMORY_X, PAPER, SHARED,
+    SHARED_LINE,
 };
 use super::svg::{cut, Box, Style};
 use crate::notation::hexadecimal;
@@ -72,9 +73,13 @@ impl Drawing<'_> {
         item(MARGIN, 1, COLOURS[0], COLOURS[0], r#"stroke-width="2" rx="3""#, "page to read, write and run");
         item(second, 0, SHARED, SHARED_LINE, r#"stroke-width="2.5" rx="4""#, "frame of several programs");
         item(second, 1, KERNEL, LINE, "", "frame of the kernel alone");
+        item(MARGIN, 2, PAPER, LINE, r#"stroke-dasharray="6 3""#, "several frames, as one row");
         self.svg.rect(Box { x: third, y: y + 17, width: 26, height: 6 }, INK, "none", "");
         self.svg.text(third + 34, y + 25, style, "block or map, to scale; arrow: to its map");
-        self.svg.path(&format!("M{third},{} H{}", y + 45, third + 26), "#555555", r#"stroke-width="4""#);
-        self.svg.text(third + 34, y + 49, style, "bytes that are not zero");
+        self.svg.path(&format!("M{third},{} h12", y + 45), CODE, r#"stroke-width="4""#);
+        self.svg.path(&format!("M{},{} h12", third + 14, y + 45), DATA, r#"stroke-width="4""#);
+        self.svg.text(third + 34, y + 49, style, "commands; other bytes that are not zero");
+        self.svg.path(&format!("M{},{} h6 l-3,5 z", second + 10, y + 66), INK, r#"stroke-width="2""#);
+        self.svg.text(second + 34, y + 73, style, "start of the desk or of a program");
     }
 }

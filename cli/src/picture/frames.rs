@@ -1,14 +1,18 @@
 //! A row of the picture: the frame with what is in it, the cells of the programs, what stands out.
 
 use super::draw::{colour, column_x, Drawing, COLUMN, FAINT, INK, KERNEL, LINE, MARGIN, MEMORY, MEMORY_X};
-use super::draw::{PAPER, REMARKS, SHARED, SHARED_LINE};
+use super::draw::{CODE, DATA, PAPER, REMARKS, SHARED, SHARED_LINE};
 use super::rows::Row;
 use super::svg::{cut, Box, Style};
 use crate::atlas::{Mapped, Reach};
 use crate::blocks::{Kind, Thing};
 use crate::hints;
 use crate::notation::hexadecimal;
+use crate::words;
 
+/// Letters of a line in a frame, and lines of names.
+const LETTERS: usize = 54;
+const MOST_LINES: usize = 4;
 /// Bold letters are as wide as plain ones of this size.
 const BOLD: u32 = 13;
 
@@ -21,8 +25,17 @@ impl Drawing<'_> {
             lines.push((self.thing_words(thing), style));
         }
         let faint = Style::plain(11, FAINT);
+        for start in self.starts.iter().filter(|start| row.holds(start.real)) {
+            let style = Style::plain(11, start.program.map_or(INK, colour));
+            lines.push((cut(&start.words, MEMORY - 12, 10), style));
+        }
         if !row.names.is_empty() {
-            lines.push((cut(&row.names.join(", "), MEMORY - 12, 10), faint));
+            let mut names = words::wrapped(&row.names.join(", "), LETTERS, 0, 0);
+            if names.len() > MOST_LINES {
+                names.truncate(MOST_LINES - 1);
+                names.push("and more".to_string());
+            }
+            lines.extend(names.into_iter().map(|line| (cut(&line, MEMORY - 12, 10), faint)));
         } else if lines.is_empty() {
             lines.push((if row.zeros { "zeros" } else { "bytes without names" }.to_string(), faint));
         }
@@ -79,30 +92,46 @@ impl Drawing<'_> {
         self.svg.text(MARGIN, y + 36, Style::plain(11, FAINT), &start);
     }
 
-    /// The frame's bytes, eight to a mark: dark where one is not zero; above them the blocks and maps, to scale.
+    /// The marks of a row that have bytes of commands, or that have none and bytes that are not zero.
+    fn marks(&self, start: usize, unit: i64, code: bool) -> Vec<i64> {
+        let marked = |i: &i64| {
+            let from = start + (unit * i) as usize;
+            let bytes = from..from + unit as usize;
+            let commands = self.code.get(bytes.clone()).is_some_and(|code| code.contains(&true));
+            let zeros = self.machine.memory.get(bytes).is_none_or(|bytes| bytes.iter().all(|byte| *byte == 0));
+            if code {
+                commands
+            } else {
+                !commands && !zeros
+            }
+        };
+        (0..64).filter(marked).collect()
+    }
+
+    /// The bytes of a row in 64 marks: black for commands, grey for others that are not zero; above them the blocks and maps, to
+    /// scale, and the starts.
     fn strip(&mut self, row: &Row, y: i64) {
-        if row.frames() > 1 {
-            return;
-        }
         let start = row.first as usize * 512;
+        let length = 512 * i64::from(row.frames());
         let (x, width) = (MEMORY_X + 6, MEMORY - 12);
-        let scaled = |byte: i64| x + byte * width / 512;
-        let mut marks = String::new();
-        for eight in 0..64 {
-            let from = start + 8 * eight as usize;
-            let bytes = self.machine.memory.get(from..from + 8).unwrap_or_default();
-            if bytes.iter().any(|byte| *byte != 0) {
-                let (left, right) = (scaled(8 * eight), scaled(8 * eight + 8));
-                marks.push_str(&format!("M{left},{} H{} ", y + 10, right - 1));
+        let scaled = |byte: i64| x + byte * width / length;
+        self.svg.path(&format!("M{x},{} H{}", y + 10, x + width), "#C4C4C4", r#"stroke-width="1""#);
+        for (code, stroke) in [(false, DATA), (true, CODE)] {
+            let marks = self.marks(start, length / 64, code);
+            let mark =
+                |i: &i64| format!("M{},{} H{}", scaled(i * length / 64), y + 10, scaled((i + 1) * length / 64) - 1);
+            if !marks.is_empty() {
+                let path = marks.iter().map(mark).collect::<Vec<_>>().join(" ");
+                self.svg.path(&path, stroke, r#"stroke-width="4""#);
             }
         }
-        self.svg.path(&format!("M{x},{} H{}", y + 10, x + width), "#C4C4C4", r#"stroke-width="1""#);
-        if !marks.is_empty() {
-            self.svg.path(marks.trim_end(), "#555555", r#"stroke-width="4""#);
+        for real in self.starts.iter().map(|start| start.real).filter(|real| row.holds(*real)).collect::<Vec<_>>() {
+            let at = scaled(i64::from(real) - start as i64);
+            self.svg.path(&format!("M{},{} h6 l-3,5 z", at - 3, y + 1), INK, r#"stroke-width="2""#);
         }
         for thing in row.things.iter().filter_map(|i| self.things.get(*i).cloned()).collect::<Vec<_>>() {
-            let from = (i64::from(thing.at) - start as i64).clamp(0, 512);
-            let to = (i64::from(thing.at) + i64::from(thing.length) - start as i64).clamp(0, 512);
+            let from = (i64::from(thing.at) - start as i64).clamp(0, length);
+            let to = (i64::from(thing.at) + i64::from(thing.length) - start as i64).clamp(0, length);
             let place = Box { x: scaled(from), y, width: (scaled(to) - scaled(from)).max(3), height: 6 };
             // A light edge keeps neighbours apart, in grey too.
             self.svg.rect(place, thing.program.map_or(INK, colour), PAPER, r#"stroke-width="0.8""#);
@@ -113,9 +142,10 @@ impl Drawing<'_> {
     fn cell_lines(&self, row: &Row, program: usize) -> Vec<(String, bool)> {
         let more = row.frames() - 1;
         let line = |reach: &Reach| {
+            let from = hexadecimal(reach.page.wrapping_mul(512));
             let pages = match more {
-                0 => format!("page {}", reach.page),
-                _ => format!("pages {}-{}", reach.page, reach.page.saturating_add(more)),
+                0 => format!("page {}, from {from}", reach.page),
+                _ => format!("pages {}-{}, from {from}", reach.page, reach.page.saturating_add(more)),
             };
             (pages, reach.write)
         };
@@ -138,7 +168,7 @@ impl Drawing<'_> {
             self.svg.rect(place, fill, colour(program), r#"stroke-width="2" rx="3""#);
             let may = if *write { "read, write, run" } else { "read, run" };
             let middle = place.y + place.height / 2;
-            self.svg.text(x + 8, middle - 2, Style::plain(12, text).bold(), pages);
+            self.svg.text(x + 8, middle - 2, Style::plain(12, text).bold(), &cut(pages, COLUMN - 20, 11));
             self.svg.text(x + 8, middle + 12, Style::plain(11, text), may);
         }
     }

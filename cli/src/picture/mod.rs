@@ -37,5 +37,5 @@ fn title(file: &str) -> String {
 
 /// The picture of a machine's memory.
 pub fn of(machine: &Machine, fresh: &Machine, title: &str) -> String {
-    draw::picture(machine, &Atlas::of(machine, fresh), title)
+    draw::picture(machine, fresh, &Atlas::of(machine, fresh), title)
 }

@@ -6,6 +6,8 @@ use crate::machine::Machine;
 use crate::view;
 use std::collections::BTreeMap;
 
+/// Memories of up to so many frames have a row for each frame that is not all zeros.
+const FEW: u32 = 64;
 /// Rows that are drawn at most.
 const MOST_ROWS: usize = 300;
 
@@ -28,6 +30,11 @@ impl Row {
     pub fn frames(&self) -> u32 {
         self.last - self.first + 1
     }
+
+    /// Whether a real address lies in it.
+    pub fn holds(&self, real: u32) -> bool {
+        (self.first..=self.last).contains(&(real / 512))
+    }
 }
 
 /// The rows of a memory, and how many frames behind them are left out.
@@ -38,7 +45,7 @@ pub fn rows(machine: &Machine, atlas: &Atlas, things: &[Thing]) -> (Vec<Row>, u3
         let row = single(machine, atlas, things, &names, frame);
         let full = rows.len() == MOST_ROWS;
         match rows.last_mut() {
-            Some(last) if continues(last, &row) => last.last = frame,
+            Some(last) if continues(last, &row, atlas.frames > FEW) => last.last = frame,
             _ if full => return (rows, atlas.frames - frame),
             _ => rows.push(row),
         }
@@ -88,7 +95,7 @@ fn names(machine: &Machine, atlas: &Atlas, things: &[Thing]) -> NamesOfFrames {
 
 /// Whether a frame can be drawn in one row with those before it: the same programs reach it by the next pages, and there is
 /// nothing in it to tell it apart.
-fn continues(row: &Row, next: &Row) -> bool {
+fn continues(row: &Row, next: &Row, many: bool) -> bool {
     let plain = |row: &Row| row.things.is_empty() && row.names.is_empty();
     let frames = row.frames();
     let alike = |(before, after): (&Reach, &Reach)| {
@@ -99,6 +106,7 @@ fn continues(row: &Row, next: &Row) -> bool {
     plain(row)
         && plain(next)
         && row.zeros == next.zeros
+        && (row.zeros || many)
         && row.reaches.len() == next.reaches.len()
         && row.reaches.iter().zip(&next.reaches).all(alike)
 }

@@ -1,4 +1,4 @@
-//! Where commands are in a file without a source: what a trial run meets, and where its commands lead.
+//! Where commands are: as a source says, else what a trial run meets and where its commands lead.
 
 use crate::decode;
 use crate::effect;
@@ -13,7 +13,28 @@ use std::collections::BTreeSet;
 const MOST: usize = 200_000;
 
 /// The real addresses at which commands begin.
-pub fn found(fresh: &Machine) -> BTreeSet<u32> {
+pub fn known(fresh: &Machine) -> BTreeSet<u32> {
+    let lines = &fresh.known.lines;
+    match lines.is_empty() {
+        true => found(fresh),
+        false => lines.iter().filter(|line| line.is_command).map(|line| line.address).collect(),
+    }
+}
+
+/// For each byte of the memory whether it belongs to a command.
+pub fn bytes(fresh: &Machine) -> Vec<bool> {
+    let mut bytes = vec![false; fresh.memory.len()];
+    for start in known(fresh) {
+        let command = decode::decode(&|at| view::byte(&fresh.memory, at), start);
+        let length = command.map_or(1, |command| command.bytes.len());
+        if let Some(bytes) = bytes.get_mut(start as usize..start as usize + length) {
+            bytes.fill(true);
+        }
+    }
+    bytes
+}
+
+fn found(fresh: &Machine) -> BTreeSet<u32> {
     let mut code = BTreeSet::new();
     let desk = &fresh.desk;
     let image = Image {
