@@ -1,6 +1,6 @@
 //! Which program reaches which frames: the programs of a memory with their maps, page by page.
 
-use crate::image::{self, Image, Program};
+use crate::image::Program;
 use crate::machine::Machine;
 use crate::trial;
 use crate::view::{self, Damage, Rights};
@@ -110,13 +110,7 @@ pub fn pages(memory: &[u8], base: u32, length: u32) -> Vec<Page> {
 /// The programs of a file that names none: those of a trial run.
 pub fn found_programs(fresh: &Machine) -> Vec<Program> {
     let desk = &fresh.desk;
-    let image = Image {
-        memory: fresh.memory.clone(),
-        system: desk.system_block(),
-        control: desk.control_block(),
-        start: desk.register(15),
-        ..image::of_bytes(Vec::new())
-    };
+    let image = trial::image_of(fresh);
     let mut blocks = trial::run(&image).blocks;
     if blocks.is_empty() {
         blocks.extend(likely(desk, &fresh.memory));

@@ -2,7 +2,6 @@
 
 use crate::decode;
 use crate::effect;
-use crate::image::{self, Image};
 use crate::machine::Machine;
 use crate::trial;
 use crate::view;
@@ -37,13 +36,7 @@ pub fn bytes(fresh: &Machine) -> Vec<bool> {
 fn found(fresh: &Machine) -> BTreeSet<u32> {
     let mut code = BTreeSet::new();
     let desk = &fresh.desk;
-    let image = Image {
-        memory: fresh.memory.clone(),
-        system: desk.system_block(),
-        control: desk.control_block(),
-        start: desk.register(15),
-        ..image::of_bytes(Vec::new())
-    };
+    let image = trial::image_of(fresh);
     let trial = trial::run(&image);
     let places = trial.kernel.iter().copied().chain([image.start]).chain(entered(fresh));
     follow(fresh, desk, places.collect(), &mut code);

@@ -1,6 +1,7 @@
 //! The programs of an image that names none: the control blocks that a trial run resumes.
 
-use crate::image::{Image, Program};
+use crate::image::{self, Image, Program};
+use crate::machine::Machine;
 use crate::names::Names;
 use crate::view;
 use midesk::{numbers, Desk, Mark};
@@ -20,6 +21,17 @@ pub struct Trial {
     pub kernel: BTreeSet<u32>,
     /// Where programs ran: control block and virtual address.
     pub user: BTreeSet<(u32, u32)>,
+}
+
+/// A fresh machine as an image without names.
+pub fn image_of(fresh: &Machine) -> Image {
+    Image {
+        memory: fresh.memory.clone(),
+        system: fresh.desk.system_block(),
+        control: fresh.desk.control_block(),
+        start: fresh.desk.register(15),
+        ..image::of_bytes(Vec::new())
+    }
 }
 
 /// Runs an image for a while on a copy of its memory.

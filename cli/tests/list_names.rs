@@ -5,10 +5,14 @@ mod common;
 use common::{assembled, image, EXAMPLES};
 use desk::image::{load, of_bytes, Image};
 use desk::list::{listing, made_names};
+use std::sync::atomic::{AtomicUsize, Ordering};
 
 /// The image of an example's bytes, as a file of bytes gives it.
 fn of_file(example: &str) -> Image {
-    let file = std::env::temp_dir().join(format!("desk-list-names-{}-{example}.bin", std::process::id()));
+    // Tests of one file run at the same time: each call has a file of its own.
+    static CALLS: AtomicUsize = AtomicUsize::new(0);
+    let call = CALLS.fetch_add(1, Ordering::Relaxed);
+    let file = std::env::temp_dir().join(format!("desk-list-names-{}-{call}-{example}.bin", std::process::id()));
     std::fs::write(&file, image(example).memory).expect("a file");
     let found = load(&file).expect("an image");
     let _ = std::fs::remove_file(file);
