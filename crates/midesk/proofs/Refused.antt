@@ -1,6 +1,7 @@
 -- A refused call leaves every byte of the state, and the memory, as they were.
 use Prim.Native.Nat.{ℕ, _<_}
 use mathlib.Core.Path.{_≡_, refl}
+use mathlib.Core.Logic.{_≢_}
 use mathlib.Core.List.{List}
 use lib.ListN.{length}
 use Rattle.machine.specs.declared.Refusal.{Refusal}
@@ -10,6 +11,13 @@ use Rattle.machine.specs.Calls.{stepRefusal, requestRefusal, unchanged, unlessR
 use Rattle.desk.proofs.Refused as turns
 use Rattle.layout.specs.Layout.{stateBytes, packed, unpacked}
 use Rattle.layout.proofs.RoundTrip.{packed-unpacked}
+use Rattle.lists.specs.declared.LoadAnswer.{LoadAnswer}
+use Rattle.lists.specs.declared.LoadAnswer.the-variants.{Accepted}
+use Rattle.lists.specs.declared.LoadAnswer.the-variants as load
+use Rattle.lists.specs.Lists.{putsOf}
+use Rattle.lists.specs.Refusals.{deskPieces, loadAnswerNumber}
+use Rattle.load.specs.Loading.{loadRefusal, loadedBy, loadOf}
+use Rattle.midesk.specs.Exports.{loadLeft, loadCall}
 use Rattle.midesk.specs.Exports.{repliedOf, requestCall, stepLeft, stepCall, runLeft, runCall}
 
 module _ (b : List ℕ) (l : length b ≡ stateBytes) (small : (i : ℕ) → byteAt b i < 256) where
@@ -30,3 +38,13 @@ module _ (b : List ℕ) (l : length b ≡ stateBytes) (small : (i : ℕ) → byt
       → (requestCall b level) .state ≡ b
   unfolding requestCall repliedOf requestOf requestOutcome unlessRefused unchanged
   refused-request level k e = rw e (packed-unpacked b l small)
+
+-- a refused load leaves the memory
+pub refused-load : (m : Memory) (list : List ℕ) → (loadCall m list) .answer ≢ 0 → (loadCall m list) .memory ≡ m
+unfolding loadCall loadLeft loadOf loadedBy
+refused-load m list = go (loadRefusal deskPieces (length m) list)
+  where
+    go : (a : LoadAnswer) → loadAnswerNumber ((loadedBy a (putsOf list) m) .answer) ≢ 0
+        → (loadedBy a (putsOf list) m) .memory ≡ m
+    go Accepted h = absurd (h refl)
+    go (load.Refused k) h = refl

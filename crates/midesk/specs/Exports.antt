@@ -1,5 +1,5 @@
--- The four calls on numbers and bytes: unpack the state, make the call of `machine`, pack what it
--- leaves.
+-- The calls on numbers and bytes: unpack the state, make the call of `machine`, pack what it leaves.
+-- A load is the call of `load`.
 use Prim.Native.Nat.{ℕ, _+_, _*_}
 use mathlib.Core.List.{List}
 use Rattle.machine.specs.declared.StepAnswer.{StepAnswer}
@@ -8,6 +8,8 @@ use Rattle.machine.specs.declared.Reply.{Reply}
 use Rattle.machine.specs.Words.{Memory}
 use Rattle.machine.specs.Calls.{answerNumber, freshOf, stepAnswerNumber, Stepped, stepOf, requestOf, Ran, runOf}
 use Rattle.layout.specs.Layout.{packed, unpacked}
+use Rattle.lists.specs.Refusals.{loadAnswerNumber}
+use Rattle.load.specs.Loading.{Loaded, loadOf}
 
 -- A call that leaves the memory alone: its answer is the number of its refusal, 0 where it was
 -- carried out
@@ -75,10 +77,22 @@ runLeft r =
 unfoldable pub runCall : ℕ → List ℕ → Memory → RunLeft
 runCall n state m = runLeft (runOf n (unpacked state) m)
 
--- The version, 1.0.0, as one number
+-- A load answers with the number of its refusal, 0 where it was carried out; it asks for no state
+
+pub record LoadLeft : Type 0 where
+  pub answer : ℕ
+  pub memory : Memory
+
+unfoldable pub loadLeft : Loaded → LoadLeft
+loadLeft r = record { answer = loadAnswerNumber (r .answer); memory = r .memory }
+
+unfoldable pub loadCall : Memory → List ℕ → LoadLeft
+loadCall m list = loadLeft (loadOf m list)
+
+-- The version, 1.1.0, as one number
 
 abbrev pub versionOf : ℕ → ℕ → ℕ → ℕ
 versionOf major minor patch = major * 65536 + minor * 256 + patch
 
 unfoldable pub version : ℕ
-version = versionOf 1 0 0
+version = versionOf 1 1 0

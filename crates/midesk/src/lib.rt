@@ -1,8 +1,8 @@
-// The four calls for programs in C and Rust: the state as bytes, the memory as a lent slice. Any
-// bytes are a state; every call answers. Beside them the version of the archive.
+// The calls for programs in C and Rust: the state as bytes, memory and load list as lent slices. Any
+// bytes are a state and a list; every call answers. Beside them the version of the archive.
 ghost use mathlib.Core.Path.{_≡_};
 ghost use lib.ListN.{length};
-ghost use Rattle.midesk.specs.Exports.{freshCall, requestCall, runCall, stepCall, stepCode, version};
+ghost use Rattle.midesk.specs.Exports.{freshCall, loadCall, requestCall, runCall, stepCall, stepCode, version};
 use layout::STATE_BYTES;
 use machine::RealAddress;
 use machine::StepAnswer;
@@ -90,10 +90,20 @@ pub extern "C" fn midesk_request(state: &mut [u8; STATE_BYTES], level: u32) -> u
     a.number()
 }
 
+// Loads a list into this memory. Answers the number of the refusal, or 0.
+#[no_mangle]
+pub extern "C" fn midesk_load(mem: &mut [u8], list: &[u8]) -> u32
+    ensures { λ r. ⌜ record { answer = r; memory = now (mem .exit) }
+        ≡ loadCall (now (mem .entry)) (now (list .entry)) ⌝ }
+{
+    let a = load::load(mem, list);
+    a.number()
+}
+
 // The version of the archive: major, minor and patch in a byte each, patch lowest.
 #[no_mangle]
 pub extern "C" fn midesk_version() -> u32
     ensures { λ r. ⌜ r ≡ version ⌝ }
 {
-    0x01_00_00
+    0x01_01_00
 }

@@ -1,0 +1,6 @@
+-- what stands at a place of a list, and what is read from there on
+pub mod Reading
+-- a list judged command by command
+pub mod Judging
+-- what an accepted list is
+pub mod Accepted

@@ -1,0 +1,4 @@
+-- what is left of a list to be put
+pub mod Putting
+-- how the call ends
+pub mod Outcomes

@@ -1,0 +1,40 @@
+-- How the call ends: refused by the memory's length, refused by its list, or loaded.
+use Prim.Native.Nat.{ℕ}
+use mathlib.Core.Path.{_≡_, refl}
+use mathlib.Core.Bool.{true, false}
+use mathlib.Core.List.{List}
+use native.Mathlib.Omega.{arith}
+use lib.ListN.{length}
+use Rattle.machine.specs.Words.{Memory}
+use Rattle.machine.specs.State.{allowedLength}
+use Rattle.machine.specs.Map.{commit}
+use Rattle.machine.proofs.Accepted.{length-small}
+use Rattle.lists.specs.declared.LoadRefusal.{LoadRefusal}
+use Rattle.lists.specs.declared.LoadRefusal.the-variants.{Length}
+use Rattle.lists.specs.declared.LoadAnswer.the-variants.{Accepted, Refused}
+use Rattle.lists.specs.Lists.{putsOf}
+use Rattle.lists.specs.Refusals.{deskPieces, listRefusal}
+use Rattle.lists.proofs.Accepted.{passed}
+use Rattle.load.specs.Loading.{loaded, loadRefusal, loadedBy, loadOf}
+use Rattle.load.specs.Puts.{Sound}
+
+module _ (m : Memory) (list : List ℕ) where
+  pub refused-length : allowedLength (length m) ≡ false → loaded (Refused Length) m ≡ loadOf m list
+  unfolding loadOf loadRefusal loadedBy
+  refused-length h = rw h
+
+  module _ (allowed : allowedLength (length m) ≡ true) where
+    pub refused-list : {k : LoadRefusal} → listRefusal deskPieces (length m) list ≡ Refused k
+        → loaded (Refused k) m ≡ loadOf m list
+    unfolding loadOf loadRefusal loadedBy
+    refused-list h = rw (allowed, h)
+
+    module _ (h : listRefusal deskPieces (length m) list ≡ Accepted) where
+      pub list-loaded : loaded Accepted (commit (putsOf list) m) ≡ loadOf m list
+      unfolding loadOf loadRefusal loadedBy
+      list-loaded = rw (allowed, h)
+
+      pub sound : Sound m list
+      sound =
+          let p = passed deskPieces (length m) list h in
+          record { memory = omega (arith, length-small (length m) allowed); whole = p .whole; inside = p .inside }

@@ -1,0 +1,7 @@
+-- Load lists, request F-1 of document 02: a list loaded into a memory. Its commands and what is
+-- refused of it are in crate `lists`.
+
+-- the call
+pub mod Loading
+-- what is known before anything is put
+pub mod Puts

@@ -1,0 +1,22 @@
+-- What the judgement of a list has shown before anything is put.
+use Prim.Native.Nat.{ℕ, _+_, _≤_, _<_}
+use mathlib.Core.Path.{_≡_}
+use mathlib.Core.Bool.{true}
+use mathlib.Core.List.{List}
+use lib.ListN.{length}
+use Rattle.machine.specs.Words.{Memory}
+use Rattle.lists.specs.declared.Command.{Command}
+use Rattle.lists.specs.Lists.{putBytes, wellFormed, putsOf}
+use Rattle.lists.specs.Refusals.{allInside}
+
+-- what a command puts from a place on lies inside the memory
+pub record Puttable (m : Memory) (at : ℕ) (c : Command) : Type 0 where
+  pub memory : length m < 0x1_0000_0000
+  pub place : at < 0x1_0000_0000
+  pub inside : 0 < length (putBytes c) → at + length (putBytes c) ≤ length m
+
+-- and what a list puts
+pub record Sound (m : Memory) (list : List ℕ) : Type 0 where
+  pub memory : length m < 0x1_0000_0000
+  pub whole : wellFormed list ≡ true
+  pub inside : allInside (length m) (putsOf list) ≡ true
