@@ -1,8 +1,10 @@
-//! Before timing: every contender must come to the same end on every loop.
+//! Before timing: every contender must come to the same end on every loop, and load every list to the same memory.
 
 use crate::contender::{Contender, CONTENDERS};
 use crate::layout::Bench;
-use crate::loops::Loop;
+use crate::lists::Lists;
+use crate::loader::LOADERS;
+use crate::loops::{Loop, LENGTHS};
 use crate::state::State;
 
 /// What a run leaves.
@@ -43,6 +45,25 @@ pub fn check(which: Loop, length: usize) -> Result<(), String> {
             if let Some(what) = difference(&reference, &other) {
                 let name = contender.name();
                 return Err(format!("{}, memory {length}: model and {name} differ: {what}", which.name()));
+            }
+        }
+    }
+    Ok(())
+}
+
+/// Loads the lists of a kind, one after the other, into a memory of each length.
+pub fn check_lists(kind: Lists) -> Result<(), String> {
+    let lists = kind.lists();
+    for length in LENGTHS {
+        let mut left: [Vec<u8>; LOADERS.len()] = LOADERS.map(|_| (0..length).map(|at| at as u8).collect());
+        for list in &lists {
+            for (loader, memory) in LOADERS.iter().zip(&mut left) {
+                loader.load(memory, &list.bytes).map_err(|number| {
+                    format!("{}, memory {length}: {} refuses a list by {number}", kind.name(), loader.name())
+                })?;
+            }
+            if left.iter().any(|memory| *memory != left[0]) {
+                return Err(format!("{}, memory {length}: proved and plain leave different bytes", kind.name()));
             }
         }
     }

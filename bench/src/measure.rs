@@ -1,11 +1,13 @@
 //! Rounds of slices: in each round every desk runs every loop in each of its memories for a while, with the simulators
-//! between, so that what else the machine does falls on all alike. Ratios are taken within a round of a loop, which
-//! lasts less than a second.
+//! between, and every loader loads the lists of every kind, so that what else the machine does falls on all alike.
+//! Ratios are taken within a round of a loop or a kind of list, which lasts less than a second.
 
 use crate::clock;
 use crate::contender::{Contender, CONTENDERS};
 use crate::layout::Bench;
-use crate::loops::Loop;
+use crate::lists::{List, Lists};
+use crate::loader::{Loader, LOADERS};
+use crate::loops::{Loop, LENGTHS};
 use crate::simh::Vax;
 use std::time::{Duration, Instant};
 
@@ -13,13 +15,13 @@ use std::time::{Duration, Instant};
 const TIME: Duration = Duration::from_secs(165);
 const LEAST_ROUNDS: usize = 8;
 
-/// CPU seconds of a slice of a desk. A round has three of them in each memory, with the simulators between.
+/// CPU seconds of a slice of a desk or a loader. A round has three of them in each memory, with the simulators between.
 const SLICE: f64 = 0.02;
 const SLICES: usize = 3;
 /// CPU seconds of a slice of a simulator: longer, for its start-up is taken off. A round has one for each.
 const SLICE_SIMH: f64 = 0.15;
 
-/// Commands a second.
+/// Commands a second, or bytes put.
 type Speeds = Vec<f64>;
 
 /// What was measured of a loop.
@@ -29,6 +31,24 @@ pub struct Measured {
     pub desks: Vec<[Speeds; CONTENDERS.len()]>,
     /// By simulator and round; empty where the loop has no program for the VAX.
     pub simulators: Vec<Speeds>,
+}
+
+/// What was measured of the lists of a kind.
+pub struct MeasuredLists {
+    pub kind: Lists,
+    /// By length of the memory (`LENGTHS`), loader and round.
+    pub loaders: [[Speeds; LOADERS.len()]; LENGTHS.len()],
+}
+
+/// All that was measured.
+pub struct Results {
+    pub loops: Vec<Measured>,
+    pub lists: Vec<MeasuredLists>,
+}
+
+/// The places of so many contenders in the order of a part of a round: another one begins each time.
+fn in_turn(contenders: usize, part: usize, round: usize) -> impl Iterator<Item = usize> {
+    (0..contenders).map(move |i| (i + part + round) % contenders)
 }
 
 /// A loop that is being measured.
@@ -74,9 +94,7 @@ impl Track {
     fn round(&mut self, round: usize) -> Result<(), String> {
         let mut seconds = vec![[0.0; CONTENDERS.len()]; self.benches.len()];
         for part in 0..SLICES {
-            for i in 0..CONTENDERS.len() {
-                // Another one begins each time.
-                let i = (i + part + round) % CONTENDERS.len();
+            for i in in_turn(CONTENDERS.len(), part, round) {
                 for (bench, seconds) in self.benches.iter_mut().zip(&mut seconds) {
                     seconds[i] += slice(bench, CONTENDERS[i], self.counts[i])?;
                 }
@@ -94,20 +112,93 @@ impl Track {
     }
 }
 
+/// Lists that are being measured.
+struct ListTrack {
+    lists: Vec<List>,
+    /// By length.
+    memories: [Vec<u8>; LENGTHS.len()],
+    /// Loads of a slice, by loader.
+    counts: [usize; LOADERS.len()],
+    measured: MeasuredLists,
+}
+
+/// So many loads, of the lists in turn: the CPU seconds, and the bytes put.
+pub fn loads(memory: &mut [u8], loader: Loader, lists: &[List], count: usize) -> Result<(f64, usize), String> {
+    let loaded = || lists.iter().cycle().take(count);
+    let before = clock::thread();
+    for list in loaded() {
+        let answer = loader.load(memory, &list.bytes);
+        answer.map_err(|number| format!("{} refuses a list by {number}", loader.name()))?;
+    }
+    let seconds = clock::thread() - before;
+    Ok((seconds, loaded().map(|list| list.put).sum()))
+}
+
+impl ListTrack {
+    fn new(kind: Lists) -> Result<ListTrack, String> {
+        const FIRST: usize = 64;
+        let lists = kind.lists();
+        let mut memories = LENGTHS.map(|length| vec![0; length]);
+        let mut counts = [0; LOADERS.len()];
+        for (count, loader) in counts.iter_mut().zip(LOADERS) {
+            // First in every memory without looking at the clock, so that their pages are there.
+            for memory in &mut memories {
+                loads(memory, loader, &lists, FIRST)?;
+            }
+            let (seconds, _) = loads(&mut memories[0], loader, &lists, FIRST)?;
+            *count = (FIRST as f64 * SLICE / seconds) as usize + 1;
+        }
+        Ok(ListTrack { lists, memories, counts, measured: MeasuredLists { kind, loaders: Default::default() } })
+    }
+
+    fn round(&mut self, round: usize) -> Result<(), String> {
+        let mut sums = [[(0.0, 0); LOADERS.len()]; LENGTHS.len()];
+        for part in 0..SLICES {
+            for i in in_turn(LOADERS.len(), part, round) {
+                for (memory, sums) in self.memories.iter_mut().zip(&mut sums) {
+                    let (seconds, put) = loads(memory, LOADERS[i], &self.lists, self.counts[i])?;
+                    sums[i] = (sums[i].0 + seconds, sums[i].1 + put);
+                }
+            }
+        }
+        for (loaders, sums) in self.measured.loaders.iter_mut().zip(sums) {
+            for (speeds, (seconds, put)) in loaders.iter_mut().zip(sums) {
+                speeds.push(put as f64 / seconds);
+            }
+        }
+        Ok(())
+    }
+}
+
 /// So many rounds, or as many as there is time for.
-pub fn measure(loops: &[Loop], simulators: &[&'static str], rounds: Option<usize>) -> Result<Vec<Measured>, String> {
+pub fn measure(
+    loops: &[Loop],
+    kinds: &[Lists],
+    simulators: &[&'static str],
+    rounds: Option<usize>,
+) -> Result<Results, String> {
     let begin = Instant::now();
     clock::stay();
     let mut tracks = vec![];
     for which in loops {
         tracks.push(Track::new(*which, simulators)?);
     }
+    let mut list_tracks = vec![];
+    for kind in kinds {
+        list_tracks.push(ListTrack::new(*kind)?);
+    }
     let mut round = 0;
     while rounds.map_or(round < LEAST_ROUNDS || begin.elapsed() < TIME, |rounds| round < rounds) {
         for track in &mut tracks {
             track.round(round)?;
         }
+        for track in &mut list_tracks {
+            track.round(round)?;
+        }
         round += 1;
     }
-    Ok(tracks.into_iter().map(|track| track.measured).collect())
+    Ok(Results {
+        loops: tracks.into_iter().map(|track| track.measured).collect(),
+        lists: list_tracks.into_iter().map(|track| track.measured).collect(),
+    })
 }

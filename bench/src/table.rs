@@ -1,8 +1,9 @@
-//! The table.
+//! The tables: the loops, then the load lists.
 
 use crate::contender::{Contender, CONTENDERS};
+use crate::loader::LOADERS;
 use crate::loops::LENGTHS;
-use crate::measure::Measured;
+use crate::measure::{Measured, MeasuredLists};
 
 /// The value at a part of the way through the sorted values.
 fn quantile(values: &[f64], part: f64) -> f64 {
@@ -82,9 +83,25 @@ const HEAD: [(&str, usize); COLUMNS] = [
     ("proved/bytewise", 16),
 ];
 
-fn line(cells: &[String; COLUMNS]) {
-    let cells: Vec<String> = cells.iter().zip(HEAD).map(|(cell, (_, width))| format!("{cell:>width$}")).collect();
+impl MeasuredLists {
+    fn row(&self, memory: usize) -> [String; LIST_COLUMNS] {
+        let [proved, plain] = &self.loaders[memory];
+        [self.kind.name().into(), size(LENGTHS[memory]), best(proved), best(plain), ratio(proved, plain)]
+    }
+}
+
+const LIST_COLUMNS: usize = 2 + LOADERS.len() + 1;
+const LIST_HEAD: [(&str, usize); LIST_COLUMNS] =
+    [("lists", 6), ("memory", 7), (LOADERS[0].name(), 8), (LOADERS[1].name(), 8), ("proved/plain", 16)];
+
+fn line<const COLUMNS: usize>(head: &[(&str, usize); COLUMNS], cells: &[String; COLUMNS]) {
+    let cells: Vec<String> = cells.iter().zip(head).map(|(cell, (_, width))| format!("{cell:>width$}")).collect();
     println!("| {} |", cells.join(" | "));
+}
+
+fn head_lines<const COLUMNS: usize>(head: &[(&str, usize); COLUMNS]) {
+    line(head, &head.map(|(name, _)| name.into()));
+    line(head, &head.map(|(_, width)| "-".repeat(width)));
 }
 
 pub fn print(loops: &[Measured], simulators: &[&str]) {
@@ -92,11 +109,10 @@ pub fn print(loops: &[Measured], simulators: &[&str]) {
     println!("Million commands a second of CPU time, the best of {rounds} rounds.");
     println!("proved/..: the ratio of speeds within a round, median (quartiles); above 1 the proved desk is faster.");
     println!();
-    line(&HEAD.map(|(name, _)| name.into()));
-    line(&HEAD.map(|(_, width)| "-".repeat(width)));
+    head_lines(&HEAD);
     for measured in loops {
         for memory in 0..measured.desks.len() {
-            line(&measured.row(memory, simulators));
+            line(&HEAD, &measured.row(memory, simulators));
         }
     }
     println!();
@@ -122,4 +138,21 @@ fn print_growth(loops: &[Measured]) {
         let growth = ratio(measured.desk(1, Contender::Proved), measured.desk(0, Contender::Proved));
         println!("    {:<10} {growth}", measured.which.name());
     }
+}
+
+pub fn print_lists(lists: &[MeasuredLists]) {
+    let rounds = lists.first().map_or(0, |measured| measured.loaders[0][0].len());
+    println!("Load lists: million bytes put a second of CPU time, the best of {rounds} rounds.");
+    println!(
+        "proved/plain: the ratio of speeds within a round, median (quartiles); above 1 the proved load is faster."
+    );
+    println!();
+    head_lines(&LIST_HEAD);
+    for measured in lists {
+        for memory in 0..LENGTHS.len() {
+            line(&LIST_HEAD, &measured.row(memory));
+        }
+    }
+    println!();
+    println!("plain: safe Rust that judges the list in one pass and puts it in another, as the proved load does.");
 }

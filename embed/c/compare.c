@@ -1,13 +1,15 @@
 /*
- * Replays sequences of calls, which the model's program `sequences` writes, and compares every answer, state and memory
- * with the model's, bit for bit. Reads them from standard input; model/src/sequences/stream.rs describes their form.
+ * Replays sequences of calls, which the model's programs `sequences` and `lists` write, and compares every answer,
+ * state and memory with the model's, bit for bit. Reads them from standard input; model/src/sequences/stream.rs
+ * describes their form.
  *
- * Memory, state and step count each stand between pages that no access may touch: every sequence is played twice, once
- * with its first bytes right after such a page, once with its last bytes right before one. The bytes that share their
- * pages are filled and must stay as they are. So an access beside them is caught, in code without a sanitizer too.
+ * Memory, state, step count and load list each stand between pages that no access may touch: every sequence is played
+ * twice, once with its first bytes right after such a page, once with its last bytes right before one. The bytes that
+ * share their pages are filled and must stay as they are. So an access beside them is caught, in code without a
+ * sanitizer too.
  *
- * Besides it is checked that a refused call changes nothing, that a run is as many steps, and that the helpers of
- * midesk.h read and write the whole state.
+ * Besides it is checked that a refused call changes nothing, that a run is as many steps, that a load leaves its list
+ * as it is, and that the helpers of midesk.h read and write the whole state.
  *
  * Exit status: 0 all equal, 1 something differs, 2 the input cannot be used.
  */
@@ -25,9 +27,11 @@
 #define PAGE ((size_t)4096)
 #define GUARD ((size_t)1 << 32) /* no 32-bit address leads past it */
 #define LONGEST ((size_t)MIDESK_MAX_MEMORY + PAGE)
+#define LONGEST_LIST ((size_t)1 << 20)
 #define FILL 0xA5
 #define SECONDS 20 /* a sequence that takes longer hangs */
 #define SHOWN 5    /* differences that are printed */
+#define LIST_BROKEN 17u /* the refusal of a list that is cut short or has bytes after its end */
 
 /* ---- What is being done, for the messages. */
 
@@ -59,6 +63,7 @@ static uint8_t filled[PAGE]; /* FILL throughout */
 static struct buffer memory = {"memory", NULL, 0, 0, NULL, 0};
 static struct buffer state = {"state", NULL, 0, 0, NULL, 0};
 static struct buffer count = {"step count", NULL, 0, 0, NULL, 0};
+static struct buffer list = {"list", NULL, 0, 0, NULL, 0};
 
 static void reserve(struct buffer *b, size_t most)
 {
@@ -125,8 +130,9 @@ static void on_touch(int number, siginfo_t *info, void *context)
     const uint8_t *touched = (const uint8_t *)info->si_addr;
     (void)number;
     (void)context;
-    if (!say_where(where, sizeof where, &memory, touched) && !say_where(where, sizeof where, &state, touched))
-        say_where(where, sizeof where, &count, touched);
+    if (!say_where(where, sizeof where, &memory, touched) && !say_where(where, sizeof where, &state, touched)
+        && !say_where(where, sizeof where, &count, touched))
+        say_where(where, sizeof where, &list, touched);
     strcat(where, " was touched");
     say_and_leave(where);
 }
@@ -139,11 +145,17 @@ static void on_alarm(int number)
 
 /* ---- The input. */
 
-/* The acts, by their numbers in the input: the four calls, then what the caller does itself. */
-enum act { FRESH, STEP, RUN, REQUEST, PUT_STATE, PUT_MEMORY, PUT_LENGTH, ACTS };
+/* The acts, by their numbers in the input: four calls, then what the caller does itself, then another call. */
+enum act { FRESH, STEP, RUN, REQUEST, PUT_STATE, PUT_MEMORY, PUT_LENGTH, LOAD, ACTS };
 
-static const char *const act_names[ACTS] = {"fresh", "step", "run", "request", "the caller's state",
-                                            "the caller's memory", "the caller's length"};
+static const char *const act_names[ACTS] = {"fresh",
+                                            "step",
+                                            "run",
+                                            "request",
+                                            "the caller's state",
+                                            "the caller's memory",
+                                            "the caller's length",
+                                            "load"};
 
 struct reader {
     const uint8_t *at, *end;
@@ -191,7 +203,7 @@ static void change(struct reader *r, uint8_t *bytes, size_t len)
 
 static uint8_t *expected; /* the model's memory */
 static uint8_t *after;    /* the memory after a run */
-static unsigned long calls, runs, run_steps, refused;
+static unsigned long calls, loads, runs, run_steps, refused;
 
 static int fail(const char *what, const char *detail)
 {
@@ -224,14 +236,15 @@ static int same_bytes(const char *what, const uint8_t *have, const uint8_t *want
 
 static int all_kept(void)
 {
-    const struct buffer *list[3];
+    const struct buffer *all[4];
     size_t i;
-    list[0] = &memory;
-    list[1] = &state;
-    list[2] = &count;
-    for (i = 0; i < 3; i++)
-        if (!kept(list[i]))
-            return fail("a byte was written beside the ", list[i]->name);
+    all[0] = &memory;
+    all[1] = &state;
+    all[2] = &count;
+    all[3] = &list;
+    for (i = 0; i < 4; i++)
+        if (!kept(all[i]))
+            return fail("a byte was written beside the ", all[i]->name);
     return 1;
 }
 
@@ -277,8 +290,9 @@ static int run_as_steps(uint64_t n, uint32_t answer, uint64_t made, const uint8_
         && same_bytes("memory of the steps against that of the run", memory.at, after, memory.len);
 }
 
-/* Makes one call and compares. Its arguments are read already; what is expected of it is read here. */
-static int call(struct reader *r, unsigned act, const uint32_t words[3], uint64_t n)
+/* Makes one call and compares. Its arguments are read already; `bytes` are a load's list as it must stay. What is
+ * expected of the call is read here. */
+static int call(struct reader *r, unsigned act, const uint32_t words[3], uint64_t n, const uint8_t *bytes)
 {
     uint8_t before[STATE];
     const uint8_t *want_state;
@@ -293,6 +307,7 @@ static int call(struct reader *r, unsigned act, const uint32_t words[3], uint64_
         answer = call_run(n);
         made = get_count();
         break;
+    case LOAD: answer = midesk_load(memory.at, memory.len, list.at, list.len); break;
     default: answer = midesk_request(state.at, words[0]); break;
     }
     want = act == STEP ? take_u64(r) : take_u32(r);
@@ -304,10 +319,12 @@ static int call(struct reader *r, unsigned act, const uint32_t words[3], uint64_
         calls++;
         refused += (unsigned long)is_refused;
         runs += act == RUN;
+        loads += act == LOAD;
     }
     ok = same_number("the answer", answer, want) && same_number("the step count", made, want_made)
         && (act == FRESH || !is_refused || same_bytes("state of a refused call", state.at, before, STATE))
-        && same_bytes("state", state.at, want_state, STATE) && all_kept();
+        && same_bytes("state", state.at, want_state, STATE) && all_kept()
+        && (act != LOAD || same_bytes("the list after its load", list.at, bytes, list.len));
     if (ok && (is_refused || act == FRESH || act == REQUEST))
         ok = same_bytes("memory of a call that leaves it alone", memory.at, expected, memory.len);
     if (ok && act == RUN)
@@ -360,6 +377,19 @@ static void change_memory(struct reader *r)
     fill_memory();
 }
 
+/* Lends a list of exactly its bytes from here on; gives them as they are in the input. */
+static const uint8_t *take_list(struct reader *r, int high)
+{
+    size_t len = take_u32(r);
+    const uint8_t *bytes = take(r, len);
+    if (len > LONGEST_LIST)
+        bad_input("a list is too long");
+    place(&list, len, high);
+    if (len != 0)
+        memcpy(list.at, bytes, len);
+    return bytes;
+}
+
 static int play(struct reader r, int high)
 {
     uint32_t acts, i;
@@ -372,12 +402,14 @@ static int play(struct reader r, int high)
     change_memory(&r);
     place(&state, STATE, high);
     place(&count, sizeof(uint64_t), high);
+    place(&list, 0, high);
     memcpy(state.at, take(&r, STATE), STATE);
     acts = take_u32(&r);
     for (i = 0; i < acts; i++) {
         unsigned act = *take(&r, 1);
         uint32_t words[3] = {0, 0, 0};
         uint64_t n = 0;
+        const uint8_t *bytes = NULL;
         int k;
         now_act = i;
         now_call = act < ACTS ? act_names[act] : "?";
@@ -392,9 +424,10 @@ static int play(struct reader r, int high)
         case PUT_STATE: memcpy(state.at, take(&r, STATE), STATE); break;
         case PUT_MEMORY: change_memory(&r); break;
         case PUT_LENGTH: lend(take_u32(&r), high); break;
+        case LOAD: bytes = take_list(&r, high); break;
         default: bad_input("an act of no kind");
         }
-        if (act <= REQUEST && !call(&r, act, words, n))
+        if ((act <= REQUEST || act == LOAD) && !call(&r, act, words, n, bytes))
             return 0;
         if (!helpers())
             return 0;
@@ -404,10 +437,11 @@ static int play(struct reader r, int high)
     return 1;
 }
 
-/* A null pointer with length 0, of which document 01 says number 1. */
+/* A null pointer with length 0: as a memory number 1, as a list number 17. */
 static int null_memory(int high)
 {
-    uint8_t zero[STATE], any[STATE];
+    static const uint8_t none[512], end[1];
+    uint8_t zero[STATE], any[STATE], least[512] = {0};
     uint64_t a;
     size_t i;
     int ok;
@@ -416,6 +450,7 @@ static int null_memory(int high)
     place(&state, STATE, high);
     place(&count, sizeof(uint64_t), high);
     place(&memory, 0, high);
+    place(&list, 0, high);
     for (i = 0; i < STATE; i++)
         any[i] = (uint8_t)(3 * i + 1);
     memset(zero, 0, STATE);
@@ -432,6 +467,10 @@ static int null_memory(int high)
         a = midesk_run(NULL, 0, state.at, (uint64_t)i, (uint64_t *)(void *)count.at);
         ok = same_number("run", a, MIDESK_REFUSED_LENGTH) && same_number("steps of run", get_count(), 0);
     }
+    ok = ok && same_number("load into it", midesk_load(NULL, 0, end, sizeof end), MIDESK_REFUSED_LENGTH)
+        && same_number("load of it", midesk_load(least, sizeof least, NULL, 0), LIST_BROKEN)
+        && same_number("load of it into it", midesk_load(NULL, 0, NULL, 0), MIDESK_REFUSED_LENGTH)
+        && same_bytes("memory of those loads", least, none, sizeof least);
     return ok && same_bytes("state", state.at, any, STATE) && all_kept();
 }
 
@@ -464,8 +503,11 @@ static int long_memory(void)
             && same_number("number of step", midesk_number(a), MIDESK_REFUSED_LENGTH);
         a = midesk_run(mem, lengths[i], state.at, 1, (uint64_t *)(void *)count.at);
         ok = ok && same_number("run", a, MIDESK_REFUSED_LENGTH) && same_number("steps of run", get_count(), 0)
-            && same_bytes("state", state.at, fresh, STATE);
+            && same_bytes("state", state.at, fresh, STATE)
+            && same_number("load", midesk_load(mem, lengths[i], least, 1), MIDESK_REFUSED_LENGTH);
     }
+    /* A list whose first byte is its end, followed by 4 GiB. */
+    ok = ok && same_number("load of 4 GiB", midesk_load(least, sizeof least, mem, lengths[2] + 1), LIST_BROKEN);
     munmap(mem, lengths[0]);
     return ok && all_kept();
 }
@@ -505,6 +547,7 @@ int main(void)
     reserve(&memory, LONGEST);
     reserve(&state, STATE);
     reserve(&count, sizeof(uint64_t));
+    reserve(&list, LONGEST_LIST);
     catch_signals();
     strcpy(now_family, "lengths");
     for (high = 0; high < 2; high++)
@@ -546,8 +589,9 @@ int main(void)
         bad_input("it does not end with END.");
     if (getchar() != EOF)
         bad_input("it goes on after its end");
-    printf("%lu sequences, %lu calls at each guard, %lu of them refused, %lu runs also made as %lu steps: %lu differ\n",
-           (unsigned long)sequences, calls, refused, runs, run_steps, differ);
+    printf("%lu sequences, %lu calls at each guard, %lu of them loads, %lu refused, %lu runs also made as %lu steps: "
+           "%lu differ\n",
+           (unsigned long)sequences, calls, loads, refused, runs, run_steps, differ);
     free(bytes);
     free(expected);
     free(after);

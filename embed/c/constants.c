@@ -454,6 +454,73 @@ static void run(void)
     same("MIDESK_STOP_HALT", midesk_mark(desk), MIDESK_STOP_HALT);
 }
 
+/* ---- Load lists. */
+
+/* One list each: its answer, and the bytes that it puts in a memory of FILL. */
+static void lists(void)
+{
+    static const struct {
+        const char *name;
+        uint8_t list[LONGEST];
+        size_t n; /* bytes of the list */
+        uint32_t answer;
+        size_t at, count; /* so many bytes are put from there on */
+        uint8_t put[4];
+    } rows[] = {
+        {"MIDESK_LIST_END", {MIDESK_LIST_END}, 1, MIDESK_OK, 0, 0, {0}},
+        {"MIDESK_LIST_BYTE", {MIDESK_LIST_BYTE, 0x31, MIDESK_LIST_END}, 3, MIDESK_OK, 0, 1, {0x31}},
+        {"MIDESK_LIST_FOUR", {MIDESK_LIST_FOUR, 0x31, 0x32, 0x33, 0x34, MIDESK_LIST_END}, 6, MIDESK_OK, 0, 4,
+         {0x31, 0x32, 0x33, 0x34}},
+        {"MIDESK_LIST_COPIES", {MIDESK_LIST_COPIES, 0, 3, 0x31, MIDESK_LIST_END}, 5, MIDESK_OK, 0, 3,
+         {0x31, 0x31, 0x31}},
+        {"MIDESK_LIST_MOVE", {MIDESK_LIST_MOVE, 0, 0, 5, 6, MIDESK_LIST_BYTE, 0x31, MIDESK_LIST_END}, 8, MIDESK_OK,
+         0x506, 1, {0x31}},
+        /* A command past the last; a byte, but no end; an end and one more. */
+        {"MIDESK_REFUSED_MALFORMED", {MIDESK_LIST_COPIES + 1, MIDESK_LIST_END}, 2, MIDESK_REFUSED_MALFORMED, 0, 0, {0}},
+        {"MIDESK_REFUSED_MALFORMED", {MIDESK_LIST_BYTE, 0x31}, 2, MIDESK_REFUSED_MALFORMED, 0, 0, {0}},
+        {"MIDESK_REFUSED_MALFORMED", {MIDESK_LIST_END, MIDESK_LIST_END}, 2, MIDESK_REFUSED_MALFORMED, 0, 0, {0}},
+        /* A byte at 0, then one just past the memory. */
+        {"MIDESK_REFUSED_OUTSIDE",
+         {MIDESK_LIST_BYTE, 0x31, MIDESK_LIST_MOVE, 0, 0, LENGTH >> 8, 0, MIDESK_LIST_BYTE, 0x31, MIDESK_LIST_END}, 10,
+         MIDESK_REFUSED_OUTSIDE, 0, 0, {0}},
+    };
+    static uint8_t left[LENGTH];
+    size_t i;
+    for (i = 0; i < COUNT(rows); i++) {
+        memset(memory, FILL, LENGTH);
+        memset(left, FILL, LENGTH);
+        memcpy(left + rows[i].at, rows[i].put, rows[i].count);
+        same(rows[i].name, midesk_load(memory, LENGTH, rows[i].list, rows[i].n), rows[i].answer);
+        same(rows[i].name, memcmp(memory, left, LENGTH) == 0, 1);
+        same("MIDESK_REFUSED_LENGTH", midesk_load(memory, LENGTH - 1, rows[i].list, rows[i].n), MIDESK_REFUSED_LENGTH);
+        same("MIDESK_REFUSED_LENGTH", midesk_load(NULL, 0, rows[i].list, rows[i].n), MIDESK_REFUSED_LENGTH);
+        same("bytes of a memory that is refused", memcmp(memory, left, LENGTH) == 0, 1);
+    }
+    same("no list", midesk_load(memory, LENGTH, NULL, 0), MIDESK_REFUSED_MALFORMED);
+    same("no memory, no list", midesk_load(NULL, 0, NULL, 0), MIDESK_REFUSED_LENGTH);
+}
+
+/* As many pieces as are allowed, and one more. */
+static void pieces(void)
+{
+    static uint8_t list[2 * MIDESK_LIST_PIECES + 3];
+    const size_t n = 2 * MIDESK_LIST_PIECES;
+    size_t i;
+    for (i = 0; i < n + 2; i += 2) {
+        list[i] = MIDESK_LIST_BYTE;
+        list[i + 1] = (uint8_t)(i / 2 % 251);
+    }
+    memset(memory, FILL, MIDESK_MAX_MEMORY);
+    list[n + 2] = MIDESK_LIST_END;
+    same("MIDESK_REFUSED_PIECES", midesk_load(memory, MIDESK_MAX_MEMORY, list, n + 3), MIDESK_REFUSED_PIECES);
+    same("a byte of a list that is refused", memory[0], FILL);
+    list[n] = MIDESK_LIST_END;
+    same("MIDESK_LIST_PIECES", midesk_load(memory, MIDESK_MAX_MEMORY, list, n + 1), MIDESK_OK);
+    for (i = 0; i < MIDESK_LIST_PIECES; i++)
+        same("MIDESK_LIST_PIECES: a byte", memory[i], i % 251);
+    same("MIDESK_LIST_PIECES: the byte after the last", memory[MIDESK_LIST_PIECES], FILL);
+}
+
 int main(void)
 {
     version();
@@ -472,6 +539,8 @@ int main(void)
     refusals();
     causes_and_stops();
     run();
+    lists();
+    pieces();
     if (!wrong)
         printf("version %d.%d.%d: the constants are those of the calls\n", MIDESK_VERSION_MAJOR, MIDESK_VERSION_MINOR,
                MIDESK_VERSION_PATCH);

@@ -22,16 +22,18 @@
  *     }
  *
  * Link it with target/staticlib/libmidesk.a of the repository or, where embed/install has put it elsewhere, with what
- * `pkg-config --cflags --libs midesk` says. embed/c/user_mode.c shows user mode, a map and an interrupt.
+ * `pkg-config --cflags --libs midesk` says. embed/c/user_mode.c shows user mode, a map and an interrupt, embed/c/load.c
+ * a program that arrives as a load list.
  *
  * What you must ensure, since no call can check it:
  *   - mem points to len bytes that may be read and, except for midesk_fresh, written; where len is 0, any pointer will
  *     do, a null pointer too;
  *   - state points to 90 bytes that may be read and written, steps to a uint64_t that may be written;
- *   - these do not overlap, and no other thread uses them during the call.
- * Nothing else: every content of memory and state, every length and every number is answered. What cannot be used is
- * refused by a number from 1 to 7. A refused call changes neither state nor memory, with one exception: midesk_fresh,
- * when refused, replaces the state by the all-zero desk stopped with that number.
+ *   - list points to list_len bytes that may be read; where list_len is 0, any pointer will do here too;
+ *   - these do not overlap, and no other thread uses them during the call (a list may be read by others).
+ * Nothing else: every content of memory, state and list, every length and every number is answered. What cannot be used
+ * is refused by a number, 1 to 7 or 17 to 19. A refused call changes neither state nor memory, with one exception:
+ * midesk_fresh, when refused, replaces the state by the all-zero desk stopped with that number.
  *
  * The inline functions at the end only read and write bytes; they check nothing, and each says what it needs.
  *
@@ -55,7 +57,7 @@ extern "C" {
  * comparisons in #if too: 65536 x MAJOR + 256 x MINOR + PATCH.
  */
 #define MIDESK_VERSION_MAJOR 1
-#define MIDESK_VERSION_MINOR 0
+#define MIDESK_VERSION_MINOR 1
 #define MIDESK_VERSION_PATCH 0
 #define MIDESK_VERSION (MIDESK_VERSION_MAJOR * 65536u + MIDESK_VERSION_MINOR * 256u + MIDESK_VERSION_PATCH)
 
@@ -128,7 +130,16 @@ extern "C" {
 #define MIDESK_FRAME_BYTES 512
 #define MIDESK_MAX_MEMORY 16777216
 
-/* Answer of midesk_fresh, midesk_run and midesk_request: 0 where carried out, else why it was refused. */
+/* The commands of a load list, each one byte: midesk_load has their table. */
+#define MIDESK_LIST_END 0x00    /* ends the list */
+#define MIDESK_LIST_MOVE 0x01   /* moves the place */
+#define MIDESK_LIST_BYTE 0x02   /* puts a byte */
+#define MIDESK_LIST_FOUR 0x03   /* puts four bytes */
+#define MIDESK_LIST_COPIES 0x04 /* puts copies of a byte */
+
+#define MIDESK_LIST_PIECES 4096 /* pieces that a list may have: its 02h, 03h and 04h */
+
+/* Answer of midesk_fresh, midesk_run, midesk_request and midesk_load: 0 where carried out, else why it was refused. */
 #define MIDESK_OK 0u
 #define MIDESK_REFUSED_LENGTH 1u        /* the memory length is not allowed */
 #define MIDESK_REFUSED_SYSTEM_BLOCK 2u  /* the system block's address is no multiple of 4, or the block does not fit */
@@ -138,6 +149,9 @@ extern "C" {
 #define MIDESK_REFUSED_STATUS 5u        /* status has an undefined bit, or the pending set has level 0's bit */
 #define MIDESK_REFUSED_LEVEL 6u         /* a requested level is 0 or above 15 */
 #define MIDESK_REFUSED_STOPPED 7u       /* a stopped desk was asked to step or run */
+#define MIDESK_REFUSED_MALFORMED 17u    /* a list has an unknown command, is cut short, or has bytes after its end */
+#define MIDESK_REFUSED_PIECES 18u       /* a list has more than MIDESK_LIST_PIECES pieces */
+#define MIDESK_REFUSED_OUTSIDE 19u      /* a list puts a byte outside memory */
 
 /* The kinds of midesk_step's answer: midesk_kind(answer). */
 #define MIDESK_DONE 0u    /* a command was carried out; the number is 0 */
@@ -206,6 +220,36 @@ uint32_t midesk_run(uint8_t *mem, size_t len, uint8_t state[MIDESK_STATE_BYTES],
  * Answers MIDESK_OK, MIDESK_REFUSED_STATUS or MIDESK_REFUSED_LEVEL; when refused, state is as it was.
  */
 uint32_t midesk_request(uint8_t state[MIDESK_STATE_BYTES], uint32_t level);
+
+/*
+ * Loads a list into memory: bytes in parts, each with its own address. No desk is asked. A list is a row of commands,
+ * each one byte and what belongs to it, numbers highest byte first:
+ *
+ *     Command             Byte  Followed by                  Does
+ *     MIDESK_LIST_END     00h   -                            ends the list
+ *     MIDESK_LIST_MOVE    01h   address (4 bytes)            moves the place to this real address
+ *     MIDESK_LIST_BYTE    02h   the byte                     puts it
+ *     MIDESK_LIST_FOUR    03h   the 4 bytes                  puts them, the first at the place
+ *     MIDESK_LIST_COPIES  04h   count (2 bytes), the byte    puts so many copies of it; none where the count is 0
+ *
+ * The place is 0 at first. What is put stands from the place on, and the place moves just past it; of two puts at one
+ * address the later wins. Memory that the list does not mention stays as it is. 02h, 03h and 04h are the pieces of the
+ * list, with a count of 0 too. The place may lie anywhere and does not wrap around; only a byte put outside memory is
+ * refused, so a move is not, nor is a count of 0. The list has no greatest length, since moves are no pieces.
+ *
+ * Answers MIDESK_OK or the first of these that is so, each judged over the whole list before the next:
+ *
+ *     MIDESK_REFUSED_LENGTH     len is not allowed
+ *     MIDESK_REFUSED_MALFORMED  an unknown command, a list cut short (inside a command or without a 00h, so the empty
+ *                               list too), or bytes after its 00h
+ *     MIDESK_REFUSED_PIECES     more than MIDESK_LIST_PIECES pieces
+ *     MIDESK_REFUSED_OUTSIDE    a byte is put outside memory
+ *
+ * When refused, memory is as it was. The list is read twice, first to judge it, then to put its bytes: so it must not
+ * lie in mem, where a put could change what is judged already. The time grows with list_len and with the bytes put, at
+ * most 4096 x 65535 of them, and not with len.
+ */
+uint32_t midesk_load(uint8_t *mem, size_t len, const uint8_t *list, size_t list_len);
 
 /* The version of the archive, as MIDESK_VERSION has it: equal to it where header and archive belong together. */
 uint32_t midesk_version(void);

@@ -1,5 +1,6 @@
-//! Puts commands together from their fields.
+//! Puts commands together from their fields, and load lists from their commands.
 
+use crate::load::Command;
 use crate::operand::Fields;
 
 fn fields(form: u8, x: u8, y: u8, z: u32) -> Fields {
@@ -58,4 +59,25 @@ pub fn command(byte: u8, operands: &[Fields]) -> Vec<u8> {
         bytes.extend(operand.bytes());
     }
     bytes
+}
+
+/// The bytes of one command of a load list.
+pub fn list_command(command: &Command) -> Vec<u8> {
+    let (byte, operands) = match command {
+        Command::Move(address) => (1, address.to_be_bytes().to_vec()),
+        Command::Byte(byte) => (2, vec![*byte]),
+        Command::Four(bytes) => (3, bytes.to_vec()),
+        Command::Copies(count, byte) => (4, [&count.to_be_bytes()[..], &[*byte]].concat()),
+    };
+    [vec![byte], operands].concat()
+}
+
+/// A load list without its end.
+pub fn unended(commands: &[Command]) -> Vec<u8> {
+    commands.iter().flat_map(list_command).collect()
+}
+
+/// A load list.
+pub fn list(commands: &[Command]) -> Vec<u8> {
+    [unended(commands), vec![0]].concat()
 }

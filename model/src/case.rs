@@ -1,9 +1,10 @@
 //! A case: a memory image, a start state, calls, and what comes out.
 
 use crate::desk;
+use crate::load;
 use crate::state::*;
 
-#[derive(Clone, Copy, PartialEq, Eq, Debug)]
+#[derive(Clone, PartialEq, Eq, Debug)]
 pub enum Call {
     Step,
     Run(u32),
@@ -14,6 +15,8 @@ pub enum Call {
         control: u32,
         start: u32,
     },
+    /// Loads a list into the case's memory; the state takes no part.
+    Load(Vec<u8>),
 }
 
 /// Bytes `first`, `first + add`, ... (modulo 256) from an address on.
@@ -49,20 +52,22 @@ pub struct Expected {
     pub memory: Vec<u8>,
 }
 
-/// The four calls of the model or of a wrong copy of it.
+/// The five calls of the model or of a wrong copy of it.
 #[derive(Clone, Copy)]
 pub struct Desk {
     pub fresh: fn(u64, u32, u32, u32) -> Answered,
     pub step: fn(&State, &mut [u8]) -> Stepped,
     pub run: fn(&State, &mut [u8], u64) -> Ran,
     pub request: fn(&State, u32) -> Answered,
+    pub load: fn(&mut [u8], &[u8]) -> u32,
 }
 
-pub const MODEL: Desk = Desk { fresh: desk::fresh, step: desk::step, run: desk::run, request: desk::request };
+pub const MODEL: Desk =
+    Desk { fresh: desk::fresh, step: desk::step, run: desk::run, request: desk::request, load: load::load };
 
 impl Desk {
     /// Makes one call.
-    pub fn make(&self, call: Call, state: &State, memory: &mut [u8]) -> Outcome {
+    pub fn make(&self, call: &Call, state: &State, memory: &mut [u8]) -> Outcome {
         let answered =
             |answer: Answered| Outcome { refusal: answer.refusal, state: answer.state, event: Event::Plain, count: 0 };
         match call {
@@ -71,7 +76,7 @@ impl Desk {
                 Outcome { refusal: answer.refusal, state: answer.state, event: answer.event, count: 0 }
             }
             Call::Run(n) => {
-                let answer = (self.run)(state, memory, u64::from(n));
+                let answer = (self.run)(state, memory, u64::from(*n));
                 Outcome {
                     refusal: answer.refusal,
                     state: answer.state,
@@ -79,16 +84,17 @@ impl Desk {
                     count: answer.count as u32,
                 }
             }
-            Call::Request(level) => answered((self.request)(state, level)),
+            Call::Request(level) => answered((self.request)(state, *level)),
             Call::Fresh { system, control, start } => {
-                answered((self.fresh)(memory.len() as u64, system, control, start))
+                answered((self.fresh)(memory.len() as u64, *system, *control, *start))
             }
+            Call::Load(list) => answered(Answered { refusal: (self.load)(memory, list), state: *state }),
         }
     }
 }
 
 /// Makes one call of the model.
-pub fn make(call: Call, state: &State, memory: &mut [u8]) -> Outcome {
+pub fn make(call: &Call, state: &State, memory: &mut [u8]) -> Outcome {
     MODEL.make(call, state, memory)
 }
 
@@ -98,7 +104,7 @@ pub fn play(case: &Case) -> Expected {
     let mut state = case.start;
     let mut outcomes = Vec::new();
     for call in &case.calls {
-        let outcome = make(*call, &state, &mut memory);
+        let outcome = make(call, &state, &mut memory);
         state = outcome.state;
         outcomes.push(outcome);
     }

@@ -5,6 +5,7 @@ use crate::checks::{self, Broken};
 use crate::code::Role;
 use crate::desk;
 use crate::entry;
+use crate::list_table::Lists;
 use crate::notes::{Note, Notes};
 use crate::state::*;
 use crate::work::Part;
@@ -44,10 +45,19 @@ pub struct Cover {
     pub levels: Counts<(u32, &'static str)>,
     pub runs: Counts<&'static str>,
     pub requests: Counts<(u32, &'static str)>,
+    pub lists: Lists,
 }
 
-fn add<K: Ord>(counts: &mut Counts<K>, key: K) {
+pub fn add<K: Ord>(counts: &mut Counts<K>, key: K) {
     *counts.entry(key).or_insert(0) += 1;
+}
+
+/// The loads of a case so far.
+struct Loads {
+    /// Bytes of the memory that they put.
+    put: Vec<bool>,
+    /// Whether the last one loaded; nothing again after a run.
+    last: Option<bool>,
 }
 
 fn kind(call: &Call) -> &'static str {
@@ -56,6 +66,7 @@ fn kind(call: &Call) -> &'static str {
         Call::Run(_) => "run",
         Call::Request(_) => "request",
         Call::Fresh { .. } => "fresh",
+        Call::Load(_) => "load",
     }
 }
 
@@ -151,11 +162,13 @@ impl Cover {
     pub fn play(&mut self, case: &Case) {
         let mut memory = case.image.clone();
         let mut state = case.start;
+        let mut loads = Loads { put: vec![false; memory.len()], last: None };
         for call in &case.calls {
             let judged = match call {
                 Call::Step | Call::Run(_) => checks::of_step(&state, &memory),
                 Call::Request(level) => checks::of_request(&state, *level),
                 Call::Fresh { system, control, .. } => checks::of_fresh(memory.len() as u64, *system, *control),
+                Call::Load(list) => self.load(&memory, list, &mut loads),
             };
             match (judged, call) {
                 (Err(broken), _) => {
@@ -163,10 +176,17 @@ impl Cover {
                     if *call == Call::Run(0) {
                         add(&mut self.runs, "of 0 steps, refused");
                     }
-                    state = make(*call, &state, &mut memory).state;
+                    state = make(call, &state, &mut memory).state;
                 }
                 (Ok(()), Call::Step) => state = self.step(&state, &mut memory).0,
-                (Ok(()), Call::Run(n)) => state = self.run(*n, &state, &mut memory),
+                (Ok(()), Call::Run(n)) => {
+                    state = self.run(*n, &state, &mut memory);
+                    match loads.last.take() {
+                        Some(true) => add(&mut self.lists.calls, "a run after a load"),
+                        Some(false) => add(&mut self.lists.calls, "a run after a refused load"),
+                        None => {}
+                    }
+                }
                 (Ok(()), Call::Request(level)) => {
                     let fate = match (state.stopped(), state.pending >> level & 1 == 1) {
                         (true, _) => "stopped desk",
@@ -174,11 +194,23 @@ impl Cover {
                         (false, false) => "new",
                     };
                     add(&mut self.requests, (*level, fate));
-                    state = make(*call, &state, &mut memory).state;
+                    state = make(call, &state, &mut memory).state;
                 }
-                (Ok(()), Call::Fresh { .. }) => state = make(*call, &state, &mut memory).state,
+                (Ok(()), Call::Fresh { .. } | Call::Load(_)) => state = make(call, &state, &mut memory).state,
             }
         }
+    }
+
+    /// Counts a load and judges it.
+    fn load(&mut self, memory: &[u8], list: &[u8], loads: &mut Loads) -> Result<(), Broken> {
+        match loads.last {
+            Some(true) => add(&mut self.lists.calls, "a load after a load"),
+            Some(false) => add(&mut self.lists.calls, "a load after a refused load"),
+            None => {}
+        }
+        let judged = self.lists.load(memory, list, &mut loads.put);
+        loads.last = Some(judged.is_ok());
+        judged
     }
 
     fn run(&mut self, n: u32, start: &State, memory: &mut [u8]) -> State {

@@ -1,5 +1,5 @@
-//! A reference model of the MI desk, written from document 01 and the named
-//! sections of document 000. Slow and byte by byte.
+//! A reference model of the MI desk, written from document 01, the requests of
+//! document 02 and the named sections of document 000. Slow and byte by byte.
 
 pub mod arith;
 pub mod asm;
@@ -13,6 +13,8 @@ pub mod entry;
 pub mod faults;
 pub mod flag_table;
 pub mod gen;
+pub mod list_table;
+pub mod load;
 pub mod map;
 pub mod notes;
 pub mod operand;

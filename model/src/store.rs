@@ -21,10 +21,10 @@
 //!   words     start state, as changes against words that are all zero
 //!   u16       number of calls
 //!   the calls:
-//!     u8        kind: 0 step, 1 run, 2 level request, 3 fresh desk
+//!     u8        kind: 0 step, 1 run, 2 level request, 3 fresh desk, 4 load
 //!     arguments: step none; run u32 n; request u32 level; fresh u32 system
 //!               block, u32 control block, u32 start (its memory length is
-//!               the case's)
+//!               the case's); load u32 n, then the n bytes of the list
 //!     u8        refusal, 0 for none
 //!     step only:
 //!       u8      event: 0 nothing special (or refused), 1 entry, 2 stop
@@ -34,6 +34,7 @@
 //!       stop:   u32 number
 //!     run only: u32 count
 //!     words     state after the call, as changes against the one before
+//!               (a load changes none)
 //!   u16       number of changed runs of the memory after the last call,
 //!             against the image:
 //!     u32       address
@@ -154,6 +155,11 @@ fn case_to(out: &mut Vec<u8>, case: &Case, expected: &Expected) {
                     u32_to(out, word);
                 }
             }
+            Call::Load(list) => {
+                out.push(4);
+                u32_to(out, list.len() as u32);
+                out.extend(list);
+            }
         }
         out.push(outcome.refusal as u8);
         match call {
@@ -267,7 +273,12 @@ impl Reader<'_> {
             0 => Call::Step,
             1 => Call::Run(self.number(4)),
             2 => Call::Request(self.number(4)),
-            _ => Call::Fresh { system: self.number(4), control: self.number(4), start: self.number(4) },
+            3 => Call::Fresh { system: self.number(4), control: self.number(4), start: self.number(4) },
+            4 => {
+                let length = self.number(4) as usize;
+                Call::Load(self.take(length).to_vec())
+            }
+            other => panic!("a call of kind {other}"),
         };
         let refusal = self.number(1);
         let mut event = Event::Plain;

@@ -273,11 +273,11 @@ pub fn entries(cover: &Cover, table: &mut Table) {
 }
 
 pub fn refusals(cover: &Cover, table: &mut Table) {
-    println!("Refusals by call (step, run, request, fresh)");
+    println!("Refusals by call (step, run, request, fresh, load)");
     let list = [
-        (1, "length 0", "srf"),
+        (1, "length 0", "srfl"),
         (1, "length above 16,777,216", "srf"),
-        (1, "length no multiple of 512", "srf"),
+        (1, "length no multiple of 512", "srfl"),
         (2, "system block no multiple of 4", "srf"),
         (2, "system block doesn't fit", "srf"),
         (3, "control block no multiple of 4", "srf"),
@@ -289,17 +289,35 @@ pub fn refusals(cover: &Cover, table: &mut Table) {
         (6, "level 0", "q"),
         (6, "level above 15", "q"),
         (7, "stopped", "sr"),
+        (17, "empty list", "l"),
+        (17, "no end", "l"),
+        (17, "01h cut short", "l"),
+        (17, "02h cut short", "l"),
+        (17, "03h cut short", "l"),
+        (17, "04h cut short in its count", "l"),
+        (17, "04h cut short before its byte", "l"),
+        (17, "unknown command", "l"),
+        (17, "bytes after the end", "l"),
+        (18, "more than 4,096 pieces", "l"),
+        (19, "02h outside memory", "l"),
+        (19, "03h outside memory", "l"),
+        (19, "03h across the memory's end", "l"),
+        (19, "04h outside memory", "l"),
+        (19, "04h across the memory's end", "l"),
     ];
     for (number, reason, calls) in list {
-        let mut line = format!("  {number} {reason:32}");
-        for (letter, kind) in [('s', "step"), ('r', "run"), ('q', "request"), ('f', "fresh")] {
+        let mut line = format!("  {number:2} {reason:32}");
+        for (letter, kind) in [('s', "step"), ('r', "run"), ('q', "request"), ('f', "fresh"), ('l', "load")] {
             let label = format!("refusal {number} of {kind}: {reason}");
             let cell = table.cell(&cover.refusals, (number, kind, reason), calls.contains(letter), label);
             line += &format!("{cell:>8}");
         }
         println!("{line}");
     }
-    println!("  impossible: a request tries 5 and 6 only, a fresh desk 1 to 3, step and run all but 6\n");
+    println!(
+        "  impossible: a request tries 5 and 6 only, a fresh desk 1 to 3, step and run 1 to 7 but for 6, a load 1 and"
+    );
+    println!("  17 to 19. A load into more than 65,536 bytes is no stored case; a unit test tries it\n");
     println!("Runs");
     for what in [
         "of 0 steps",

@@ -6,11 +6,16 @@ use crate::state::{State, KERNEL, RUNNING};
 const DEFINED: u32 = 0x8000_00FF;
 const LONGEST: u64 = 16_777_216;
 
+/// Whether a memory may have this length.
+pub fn allowed(length: u64) -> bool {
+    length != 0 && length <= LONGEST && length & 511 == 0
+}
+
 /// Refusals 1 to 5 and 7, in number order.
 pub fn refusal(memory: &[u8], desk: &State) -> Result<(), u32> {
     let length = memory.len() as u64;
     let fits = |address: u32, bytes: u64| address & 3 == 0 && u64::from(address) + bytes <= length;
-    if length == 0 || length > LONGEST || length & 511 != 0 {
+    if !allowed(length) {
         Err(1)
     } else if !fits(desk.system_block, 256) {
         Err(2)

@@ -12,6 +12,7 @@ use crate::snapshot::WORDS;
 use crate::snapshot::Words;
 use crate::snapshot::changed;
 use crate::snapshot::control_of;
+use crate::snapshot::desk_of;
 use crate::snapshot::same_words;
 use crate::snapshot::saved_at;
 use crate::snapshot::unsaved;
@@ -160,6 +161,12 @@ pub fn check_reply(s: &[u8], at: usize, before: Words, reply: Reply) -> Checked 
     let desk = reply.desk;
     let what = refusal_difference(answer, s, at);
     check_state(s, past(s, at, 1), before, what, desk)
+}
+
+// The number that a load answers: u8 refusal, and the state, which it leaves.
+pub fn check_load(s: &[u8], at: usize, before: Words, number: u32) -> Checked {
+    let what = unless_equal(number, wide(byte_at(s, at)), Difference::Refusal);
+    check_state(s, past(s, at, 1), before, what, desk_of(before))
 }
 
 // The reply to a run: u8 refusal, u32 count, and the state.

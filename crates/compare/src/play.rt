@@ -1,5 +1,6 @@
 // A case, played on the desk.
 use cases::answers::Checked;
+use cases::answers::check_load;
 use cases::answers::check_memory;
 use cases::answers::check_reply;
 use cases::answers::check_run;
@@ -8,6 +9,7 @@ use cases::difference::Difference;
 use cases::difference::Verdict;
 use cases::fields::byte_at;
 use cases::fields::half_at;
+use cases::fields::part;
 use cases::fields::past;
 use cases::fields::word_at;
 use cases::memory::fill;
@@ -61,6 +63,14 @@ fn fresh(s: &[u8], at: usize, before: Words, mem: &[u8]) -> Checked {
     check_reply(s, past(s, at, 12), before, reply)
 }
 
+// u32 length, and as many bytes: a load list.
+fn load_list(s: &[u8], at: usize, before: Words, mem: &mut [u8]) -> Checked {
+    let n = word_at(s, at) as usize;
+    let from = past(s, at, 4);
+    let answer = load::load(mem, part(s, from, n));
+    check_load(s, past(s, from, n), before, answer.number())
+}
+
 // u8 kind, and the fields of that kind.
 fn check_call(s: &[u8], at: usize, before: Words, mem: &mut [u8]) -> Checked {
     let kind = byte_at(s, at);
@@ -70,6 +80,7 @@ fn check_call(s: &[u8], at: usize, before: Words, mem: &mut [u8]) -> Checked {
         1 => run(s, body, before, mem),
         2 => request(s, body, before),
         3 => fresh(s, body, before, mem),
+        4 => load_list(s, body, before, mem),
         _ => Checked {
             what: Difference::Format,
             words: before,

@@ -4,3 +4,5 @@ pub mod Reading
 pub mod Judging
 -- what an accepted list is
 pub mod Accepted
+-- worked lists, computed
+pub mod Worked

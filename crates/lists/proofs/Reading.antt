@@ -2,12 +2,12 @@
 use Prim.Native.Nat.{ℕ, zero, suc, _+_, _-_, _*_, _≤_, _<_}
 use mathlib.Core.Path.{_≡_, refl, sym, _∙_, ap}
 use mathlib.Core.Logic.{_≢_}
-use mathlib.Core.Bool.{Bool, true, false}
+use mathlib.Core.Bool.{Bool, true, false, _&&_, false≢true}
 use mathlib.Core.List.{List, []}
-use native.Mathlib.Decide.{decLt}
+use native.Mathlib.Decide.{ℕ-discrete}
 use native.Mathlib.Omega.{arith}
 use native.Mathlib.Nat.{zero-add, suc-add, sub-zero}
-use borrow.Author.Tests.{le-leb, lt-leb, leb-true, eq-eqb, ne-eqb}
+use borrow.Author.Tests.{le-leb, lt-leb, leb-true, leb-false, eq-eqb, ne-eqb, eqb-true}
 use lib.Dec.{leb, eqb}
 use lib.ListN.{length}
 use Rattle.machine.specs.Words.{pick, byteAt, wordAt}
@@ -31,12 +31,33 @@ width-in-positive End = omega arith
 width-in-positive (More c) = width-positive c
 width-in-positive Unreadable = omega arith
 
--- bytes that are left from a place on
-pub few-left : (n at width : ℕ) → n - at < width → leb (at + width) n ≡ false
-few-left n at width h = lt-leb (at + width) n (omega arith)
+-- enough bytes are left from a place on
+pub starts-inside : (n at width : ℕ) (b : Bool) → (leb width (n - at) && b) ≡ true → at ≤ n → at + width ≤ n
+starts-inside n at width b h l = go (leb width (n - at)) refl h
+  where
+    go : (a : Bool) → leb width (n - at) ≡ a → (a && b) ≡ true → at + width ≤ n
+    go true e h = omega (arith, leb-true)
+    go false e h = absurd (false≢true h)
 
-pub enough-left : (n at width : ℕ) → width ≤ n - at → at ≤ n → leb (at + width) n ≡ true
-enough-left n at width h l = le-leb (at + width) n (omega arith)
+-- the test for a command of so many bytes, by the bytes left from its place on and its own byte
+module _ (n at width c k : ℕ) where
+  abbrev pub starts : Bool
+  starts = leb width (n - at) && eqb c k
+
+  pub starts-whole : starts ≡ true → at ≤ n → (at + width ≤ n) × (c ≡ k)
+  starts-whole h l = (starts-inside n at width (eqb c k) h l, go (leb width (n - at)) (eqb c k) refl h)
+    where
+      go : (a b : Bool) → eqb c k ≡ b → (a && b) ≡ true → c ≡ k
+      go a true f h = eqb-true c k f
+      go true false f h = absurd (false≢true h)
+      go false false f h = absurd (false≢true h)
+
+  pub starts-not : starts ≡ false → c ≡ k → leb (at + width) n ≡ false
+  starts-not h e = go (leb width (n - at)) refl (rw (eq-eqb c k e) at h)
+    where
+      go : (a : Bool) → leb width (n - at) ≡ a → (a && true) ≡ false → leb (at + width) n ≡ false
+      go true e h = cc
+      go false e h = lt-leb (at + width) n (omega (arith, leb-false))
 
 alike : (b : Bool) → pick b Unreadable Unreadable ≡ Unreadable
 alike true = refl
@@ -52,7 +73,7 @@ module _ (list : List ℕ) (at : ℕ) where
   unfolding nextAt nextBy
   at-00 e = rw e
 
-  pub at-01 : byteAt list at ≡ 0x01 → nextAt list at ≡ whole 5 (More (Move (wordAt list (at + 1))))
+  pub at-01 : byteAt list at ≡ 0x01 → nextAt list at ≡ whole 5 (More (Move (record { 0 = wordAt list (at + 1) })))
   unfolding nextAt nextBy
   at-01 e = rw e
 
@@ -83,6 +104,24 @@ module _ (list : List ℕ) (at : ℕ) where
         ne-eqb _ _ (ne 3 (omega arith)),
         ne-eqb _ _ (ne 4 (omega arith)),
       ) (alike (leb (at + 1) (length list)))
+
+  -- by the tests for all commands
+  pub at-none : starts (length list) at 2 (byteAt list at) 0x02 ≡ false
+      → starts (length list) at 5 (byteAt list at) 0x03 ≡ false
+      → starts (length list) at 4 (byteAt list at) 0x04 ≡ false
+      → starts (length list) at 5 (byteAt list at) 0x01 ≡ false
+      → byteAt list at ≢ 0x00 → nextAt list at ≡ Unreadable
+  at-none two three four one other =
+      go (ℕ-discrete (byteAt list at) 1) (ℕ-discrete (byteAt list at) 2) (ℕ-discrete (byteAt list at) 3)
+      (ℕ-discrete (byteAt list at) 4)
+    where
+      go : Dec (byteAt list at ≡ 1) → Dec (byteAt list at ≡ 2) → Dec (byteAt list at ≡ 3) → Dec (byteAt list at ≡ 4)
+          → nextAt list at ≡ Unreadable
+      go (yes e) b c d = rw (at-01 e, starts-not _ _ _ _ _ one e)
+      go (no a) (yes e) c d = rw (at-02 e, starts-not _ _ _ _ _ two e)
+      go (no a) (no b) (yes e) d = rw (at-03 e, starts-not _ _ _ _ _ three e)
+      go (no a) (no b) (no c) (yes e) = rw (at-04 e, starts-not _ _ _ _ _ four e)
+      go (no a) (no b) (no c) (no d) = at-unknown (omega arith)
 
   pub at-end : length list ≤ at → nextAt list at ≡ Unreadable
   unfolding nextAt

@@ -6,6 +6,7 @@
 use Prim.Native.Nat.{ℕ, zero, suc, _+_, _*_}
 use mathlib.Core.Bool.{Bool, true, false}
 use mathlib.Core.List.{List, [], _∷_, _++_}
+use mathlib.Core.Option.{Option, none, some}
 use lib.Dec.{leb, eqb}
 use lib.ListN.{length, replicate}
 use Rattle.machine.specs.Words.{pick, byteAt, wordAt}
@@ -34,7 +35,7 @@ widthIn Unreadable = 1
 unfoldable pub nextBy : ℕ → List ℕ → ℕ → Next
 nextBy c list at =
     pick (eqb c 0x00) End
-    (pick (eqb c 0x01) (More (Move (wordAt list (at + 1))))
+    (pick (eqb c 0x01) (More (Move (record { 0 = wordAt list (at + 1) })))
     (pick (eqb c 0x02) (More (Byte (byteAt list (at + 1))))
     (pick (eqb c 0x03)
     (More (Four (byteAt list (at + 1)) (byteAt list (at + 2)) (byteAt list (at + 3)) (byteAt list (at + 4))))
@@ -91,7 +92,7 @@ putBytes (Copies n b) = replicate n b
 
 -- "01h .. moves the place"; "Puts advance the place", which does not wrap
 abbrev pub placeAfter : ℕ → Command → ℕ
-placeAfter place (Move a) = a
+placeAfter place (Move a) = a .0
 placeAfter place (Byte b) = place + 1
 placeAfter place (Four a b c d) = place + 4
 placeAfter place (Copies n b) = place + n
@@ -131,3 +132,15 @@ piecesOf list = piecesIn (commandsIn (readingOf list))
 -- "the place, which starts at 0"
 unfoldable pub putsOf : List ℕ → RealWrites
 putsOf list = putsFrom 0 (commandsIn (readingOf list))
+
+-- ---- The last put at an address: "a later put wins"
+
+-- a later byte, if there is one
+abbrev pub laterOr : Option ℕ → Option ℕ → Option ℕ
+laterOr (some b) x = some b
+laterOr none x = x
+
+-- the byte of the last put at an address, if there is one
+unfoldable pub lastPut : ℕ → RealWrites → Option ℕ
+lastPut a [] = none
+lastPut a (w ∷ ws) = laterOr (lastPut a ws) (pick (eqb (w .0 .0) a) (some (w .1)) none)

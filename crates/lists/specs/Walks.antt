@@ -28,7 +28,7 @@ pastPiece n bytes w =
     (record { place = w .place; pieces = w .pieces + 1; inside = false }))
 
 unfoldable pub pastCommand : ℕ → Command → Walk → Walk
-pastCommand n (Move a) w = record { place = a; pieces = w .pieces; inside = w .inside }
+pastCommand n (Move a) w = record { place = a .0; pieces = w .pieces; inside = w .inside }
 pastCommand n (Byte b) w = pastPiece n 1 w
 pastCommand n (Four a b c d) w = pastPiece n 4 w
 pastCommand n (Copies k b) w = pastPiece n k w

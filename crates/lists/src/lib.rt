@@ -5,6 +5,7 @@ ghost use lib.ListN.{length};
 ghost use Rattle.lists.specs.Lists.{nextAt, widthOf};
 ghost use Rattle.lists.specs.Refusals.{listRefusal, loadAnswerNumber, loadRefusalNumber};
 ghost use Rattle.lists.specs.Walks.{Started, pastCommand, pastPiece, verdictOf};
+use machine::RealAddress;
 
 // A list that is loaded at the desk has at most so many pieces.
 pub const DESK_PIECES: usize = 4096;
@@ -12,7 +13,7 @@ pub const DESK_PIECES: usize = 4096;
 // A command of a list: 01h moves the place to an address; 02h, 03h and 04h, the pieces, put a byte,
 // four bytes, so many copies of a byte at the place, which advances past them.
 pub enum Command {
-    Move(u32),
+    Move(RealAddress),
     Byte(u8),
     Four(u8, u8, u8, u8),
     Copies(u32, u8),
@@ -82,7 +83,8 @@ impl Command {
     }
 }
 
-// What stands at a place of a list.
+// What stands at a place of a list. The bytes that are left are asked before the byte: with a match
+// over the byte the compiler makes a table of jumps, and the loops over a list are half as fast.
 pub fn next_at(list: &[u8], at: usize) -> Next
     requires { ⌜ at ≤ length (now list) ⌝ }
     ensures { λ r. ⌜ r ≡ nextAt (now (list .entry)) at ⌝ }
@@ -92,45 +94,33 @@ pub fn next_at(list: &[u8], at: usize) -> Next
         return Next::Unreadable;
     }
     let c = list[at];
-    match c {
-        0x00 => Next::End,
-        0x01 => {
-            if left < 5 {
-                return Next::Unreadable;
-            }
-            Next::More(Command::Move(words::word(list, at + 1)))
-        }
-        0x02 => {
-            if left < 2 {
-                return Next::Unreadable;
-            }
-            Next::More(Command::Byte(list[at + 1]))
-        }
-        0x03 => {
-            if left < 5 {
-                return Next::Unreadable;
-            }
-            Next::More(Command::Four(list[at + 1], list[at + 2], list[at + 3], list[at + 4]))
-        }
-        0x04 => {
-            if left < 4 {
-                return Next::Unreadable;
-            }
-            let count = words::wide(list[at + 1]) * 256 + words::wide(list[at + 2]);
-            Next::More(Command::Copies(count, list[at + 3]))
-        }
-        _ => Next::Unreadable,
+    if (2 <= left) & (c == 0x02) {
+        return Next::More(Command::Byte(list[at + 1]));
     }
+    if (5 <= left) & (c == 0x03) {
+        return Next::More(Command::Four(list[at + 1], list[at + 2], list[at + 3], list[at + 4]));
+    }
+    if (4 <= left) & (c == 0x04) {
+        let count = words::wide(list[at + 1]) * 256 + words::wide(list[at + 2]);
+        return Next::More(Command::Copies(count, list[at + 3]));
+    }
+    if (5 <= left) & (c == 0x01) {
+        return Next::More(Command::Move(RealAddress(words::word(list, at + 1))));
+    }
+    if c == 0x00 {
+        return Next::End;
+    }
+    Next::Unreadable
 }
 
 // ---- A whole list
 
 // What the judgement of a list keeps: the place, the pieces so far, and whether every put so far
 // lies inside the memory.
-pub struct Walk {
-    pub place: usize,
-    pub pieces: usize,
-    pub inside: bool,
+struct Walk {
+    place: usize,
+    pieces: usize,
+    inside: bool,
 }
 
 impl Walk {
@@ -171,7 +161,7 @@ impl Walk {
     {
         match c {
             Command::Move(a) => Walk {
-                place: a as usize,
+                place: a.0 as usize,
                 pieces: self.pieces,
                 inside: self.inside,
             },

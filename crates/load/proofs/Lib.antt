@@ -2,3 +2,5 @@
 pub mod Putting
 -- how the call ends
 pub mod Outcomes
+-- what a load leaves
+pub mod Effects

@@ -1,7 +1,7 @@
 -- How the call ends: refused by the memory's length, refused by its list, or loaded.
 use Prim.Native.Nat.{ℕ}
 use mathlib.Core.Path.{_≡_, refl}
-use mathlib.Core.Bool.{true, false}
+use mathlib.Core.Bool.{Bool, true, false}
 use mathlib.Core.List.{List}
 use native.Mathlib.Omega.{arith}
 use lib.ListN.{length}
@@ -13,7 +13,7 @@ use Rattle.lists.specs.declared.LoadRefusal.{LoadRefusal}
 use Rattle.lists.specs.declared.LoadRefusal.the-variants.{Length}
 use Rattle.lists.specs.declared.LoadAnswer.the-variants.{Accepted, Refused}
 use Rattle.lists.specs.Lists.{putsOf}
-use Rattle.lists.specs.Refusals.{deskPieces, listRefusal}
+use Rattle.lists.specs.Refusals.{allInside, deskPieces, unless, listRefusal}
 use Rattle.lists.proofs.Accepted.{passed}
 use Rattle.load.specs.Loading.{loaded, loadRefusal, loadedBy, loadOf}
 use Rattle.load.specs.Puts.{Sound}
@@ -38,3 +38,14 @@ module _ (m : Memory) (list : List ℕ) where
       sound =
           let p = passed deskPieces (length m) list h in
           record { memory = omega (arith, length-small (length m) allowed); whole = p .whole; inside = p .inside }
+
+-- a list that is loaded puts inside the memory
+pub puts-inside : (m : Memory) (list : List ℕ) → loadRefusal deskPieces (length m) list ≡ Accepted
+    → allInside (length m) (putsOf list) ≡ true
+unfolding loadRefusal
+puts-inside m list h = go (allowedLength (length m)) h
+  where
+    go : (b : Bool) → unless b Length (listRefusal deskPieces (length m) list) ≡ Accepted
+        → allInside (length m) (putsOf list) ≡ true
+    go true e = (passed deskPieces (length m) list e) .inside
+    go false e = cc

@@ -21,11 +21,11 @@ use Rattle.load.specs.Puts.{Puttable}
 use Rattle.lists.proofs.Reading.{restFrom, rest-more, rest-ends, rest-goes-on, rest-unreadable, rest-all}
 use Rattle.lists.proofs.Judging.{inside-append, row-outside}
 
-and-left : (a b : Bool) → (a && b) ≡ true → a ≡ true
+pub and-left : (a b : Bool) → (a && b) ≡ true → a ≡ true
 and-left true b h = refl
 and-left false b h = h
 
-and-right : (a b : Bool) → (a && b) ≡ true → b ≡ true
+pub and-right : (a b : Bool) → (a && b) ≡ true → b ≡ true
 and-right true b h = h
 and-right false b h = cc
 

@@ -3,5 +3,7 @@
 
 -- the call
 pub mod Loading
+-- what the request says of it beyond the answer
+pub mod Effects
 -- what is known before anything is put
 pub mod Puts

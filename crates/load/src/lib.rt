@@ -33,7 +33,7 @@ fn put(mem: &mut [u8], place: usize, c: Command) -> usize
     ensures small { λ r. ⌜ r < 0x1_0000_0000 ⌝ }
 {
     match c {
-        Command::Move(a) => a as usize,
+        Command::Move(a) => a.0 as usize,
         Command::Byte(b) => {
             mem[place] = b;
             place + 1

@@ -2,7 +2,8 @@
 
 use std::fmt;
 
-/// Why a call was refused, numbers 1 to 7 of the manual (`docs/MACHINE.md`). A refused call has changed nothing.
+/// Why a call was refused, numbers 1 to 7 and 17 to 19 of the manual (`docs/MACHINE.md`). A refused call has changed
+/// nothing.
 ///
 /// A later version may have more of them, so a `match` needs an arm for the others.
 #[derive(Clone, Copy, PartialEq, Eq, Hash, Debug)]
@@ -24,6 +25,12 @@ pub enum Refusal {
     Level = 6,
     /// A stopped desk was asked to step or run.
     Stopped = 7,
+    /// A list has an unknown command, is cut short, or has bytes after its end.
+    Malformed = 17,
+    /// A list has more than 4,096 pieces.
+    Pieces = 18,
+    /// A list puts a byte outside memory.
+    Outside = 19,
 }
 
 impl Refusal {
@@ -32,10 +39,12 @@ impl Refusal {
         self as u32
     }
 
-    /// The refusal of a number from 1 to 7.
+    /// The refusal of a number from 1 to 7 or 17 to 19.
     pub fn of(number: u32) -> Option<Refusal> {
         use Refusal::*;
-        [Length, SystemBlock, ControlBlock, Map, Status, Level, Stopped].into_iter().find(|r| r.number() == number)
+        [Length, SystemBlock, ControlBlock, Map, Status, Level, Stopped, Malformed, Pieces, Outside]
+            .into_iter()
+            .find(|r| r.number() == number)
     }
 }
 
@@ -49,6 +58,9 @@ impl fmt::Display for Refusal {
             Refusal::Status => "the status has an undefined bit, or the pending set has level 0's bit",
             Refusal::Level => "the requested level is 0 or above 15",
             Refusal::Stopped => "the desk is stopped",
+            Refusal::Malformed => "the list has an unknown command, is cut short, or has bytes after its end",
+            Refusal::Pieces => "the list has more than 4,096 pieces",
+            Refusal::Outside => "the list puts a byte outside memory",
         })
     }
 }
@@ -99,7 +111,7 @@ impl Mark {
     }
 }
 
-/// The answer of `fresh`, `run` and `request`.
+/// The answer of `fresh`, `run`, `request` and `load`.
 pub(crate) fn refused(answer: u32) -> Result<(), Refusal> {
     match answer {
         0 => Ok(()),

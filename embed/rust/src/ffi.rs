@@ -1,8 +1,8 @@
 //! The calls of libmidesk.a: the only unsafe code of this crate.
 //!
 //! The archive asks of its caller that the pointers lead to as many bytes as said, readable and (except for `fresh`'s
-//! memory) writable, that they do not overlap, and that nobody else uses them during the call. References give all of
-//! it. Every content of the bytes and every number is answered.
+//! memory and `load`'s list) writable, that they do not overlap, and that nobody else uses them during the call.
+//! References give all of it. Every content of the bytes and every number is answered.
 
 use crate::STATE_BYTES;
 
@@ -12,6 +12,7 @@ mod c {
         pub fn midesk_step(mem: *mut u8, len: usize, state: *mut u8) -> u64;
         pub fn midesk_run(mem: *mut u8, len: usize, state: *mut u8, n: u64, steps: *mut u64) -> u32;
         pub fn midesk_request(state: *mut u8, level: u32) -> u32;
+        pub fn midesk_load(mem: *mut u8, len: usize, list: *const u8, list_len: usize) -> u32;
         pub fn midesk_version() -> u32;
     }
 }
@@ -42,6 +43,13 @@ pub fn run(mem: &mut [u8], state: &mut [u8; STATE_BYTES], n: u64) -> (u32, u64) 
 pub fn request(state: &mut [u8; STATE_BYTES], level: u32) -> u32 {
     // SAFETY: `state` is 90 bytes that may be read and written.
     unsafe { c::midesk_request(state.as_mut_ptr(), level) }
+}
+
+/// The number of the refusal, or 0.
+pub fn load(mem: &mut [u8], list: &[u8]) -> u32 {
+    // SAFETY: `mem` is `mem.len()` bytes that may be read and written, `list` `list.len()` bytes that may be read; an
+    // exclusive and a shared reference do not overlap, and nobody writes `list` meanwhile. The call only reads it.
+    unsafe { c::midesk_load(mem.as_mut_ptr(), mem.len(), list.as_ptr(), list.len()) }
 }
 
 /// The version of the archive.

@@ -2,7 +2,7 @@
 //!
 //! This crate is a thin layer of plain Rust over the proved archive; the layer is tested, not proved.
 //!
-//! A [`Desk`] runs machine code for MI in a memory that is lent to each call. Every memory, state and number is
+//! A [`Desk`] runs machine code for MI in a memory that is lent to each call. Every memory, state, list and number is
 //! answered: what cannot be used is refused with a [`Refusal`], and then state and memory are as they were.
 //!
 //! ```
@@ -22,7 +22,8 @@
 //! # Ok::<(), midesk::Refusal>(())
 //! ```
 //!
-//! [`numbers`] describes what the desk uses in memory: system block, control block and map.
+//! [`load`] puts a program into memory that arrives as a load list, in parts with their own addresses. [`numbers`]
+//! describes its commands, and what the desk uses in memory: system block, control block and map.
 //!
 //! The crate links `libmidesk.a`, which `embed/build` of the repository makes. `docs/MACHINE.md` there is the reference
 //! manual: command bytes, operand forms, blocks, map, numbers.
@@ -43,7 +44,7 @@ pub const STATE_BYTES: usize = 90;
 
 /// The version of this crate as one number, 65536 × major + 256 × minor + patch, as the C header has it in
 /// `MIDESK_VERSION`.
-pub const VERSION: u32 = 0x01_00_00;
+pub const VERSION: u32 = 0x01_01_00;
 
 /// The version of the archive `libmidesk.a` that is linked, as one number: [`VERSION`] where crate and archive belong
 /// together.
@@ -53,6 +54,68 @@ pub const VERSION: u32 = 0x01_00_00;
 /// ```
 pub fn version() -> u32 {
     ffi::version()
+}
+
+/// Loads a list into memory: bytes in parts, each with its own address. No desk is asked. A list is a row of commands,
+/// each one byte and what belongs to it, numbers highest byte first (the constants are those of [`numbers`]):
+///
+/// | Command         | Byte | Followed by               | Does                                                 |
+/// |-----------------|------|---------------------------|------------------------------------------------------|
+/// | [`LIST_END`]    | 00h  | -                         | ends the list                                        |
+/// | [`LIST_MOVE`]   | 01h  | address (4 bytes)         | moves the place to this real address                 |
+/// | [`LIST_BYTE`]   | 02h  | the byte                  | puts it                                              |
+/// | [`LIST_FOUR`]   | 03h  | the 4 bytes               | puts them, the first at the place                    |
+/// | [`LIST_COPIES`] | 04h  | count (2 bytes), the byte | puts so many copies of it; none where the count is 0 |
+///
+/// The place is 0 at first. What is put stands from the place on, and the place moves just past it; of two puts at one
+/// address the later wins. Memory that the list does not mention stays as it is. 02h, 03h and 04h are the pieces of the
+/// list, with a count of 0 too. The place may lie anywhere and does not wrap around; only a byte put outside memory is
+/// refused, so a move is not, nor is a count of 0.
+///
+/// The list is read twice, first to judge it, then to put its bytes; the time grows with its length and with the bytes
+/// put, and not with the length of the memory.
+///
+/// ```
+/// use midesk::numbers::{LIST_BYTE, LIST_COPIES, LIST_END, LIST_FOUR, LIST_MOVE};
+/// use midesk::{load, Refusal};
+///
+/// let mut memory = vec![0xFF; 512];
+/// let list = [
+///     [LIST_MOVE, 0, 0, 1, 0].as_slice(), // to 100h
+///     &[LIST_FOUR, 1, 2, 3, 4],
+///     &[LIST_COPIES, 0, 3, 7],
+///     &[LIST_BYTE, 9],
+///     &[LIST_END],
+/// ]
+/// .concat();
+/// load(&mut memory, &list)?;
+/// assert_eq!(memory[0xFE..0x10A], [0xFF, 0xFF, 1, 2, 3, 4, 7, 7, 7, 9, 0xFF, 0xFF]);
+///
+/// // A byte at 0, then one past the memory: nothing is put.
+/// let outside = [LIST_BYTE, 5, LIST_MOVE, 0, 0, 2, 0, LIST_BYTE, 5, LIST_END];
+/// assert_eq!(load(&mut memory, &outside), Err(Refusal::Outside));
+/// assert_eq!(memory[0], 0xFF);
+/// # Ok::<(), Refusal>(())
+/// ```
+///
+/// # Errors
+///
+/// The first of these that is so, each judged over the whole list before the next; memory is as it was:
+///
+/// - [`Refusal::Length`]: the memory length is not allowed;
+/// - [`Refusal::Malformed`]: an unknown command, a list cut short (inside a command or without a 00h, so the empty list
+///   too), or bytes after its 00h;
+/// - [`Refusal::Pieces`]: more than [`LIST_PIECES`] pieces;
+/// - [`Refusal::Outside`]: a byte is put outside memory.
+///
+/// [`LIST_END`]: numbers::LIST_END
+/// [`LIST_MOVE`]: numbers::LIST_MOVE
+/// [`LIST_BYTE`]: numbers::LIST_BYTE
+/// [`LIST_FOUR`]: numbers::LIST_FOUR
+/// [`LIST_COPIES`]: numbers::LIST_COPIES
+/// [`LIST_PIECES`]: numbers::LIST_PIECES
+pub fn load(memory: &mut [u8], list: &[u8]) -> Result<(), Refusal> {
+    answers::refused(ffi::load(memory, list))
 }
 
 const STATUS: usize = 64;

@@ -1,5 +1,5 @@
-//! Numbers of the manual, `docs/MACHINE.md`: causes of a kernel entry, numbers of a stop, bits of the status word, and
-//! what the desk uses in memory.
+//! Numbers of the manual, `docs/MACHINE.md`: causes of a kernel entry, numbers of a stop, bits of the status word, what
+//! the desk uses in memory, and the commands of a load list.
 //!
 //! # Alarms
 //!
@@ -29,6 +29,11 @@
 //! an entry without [`MAP_PRESENT`] the other bits mean nothing. In one with it the six bits between [`MAP_WRITABLE`]
 //! and [`MAP_FRAME`] must be 0, and the frame must lie in memory; otherwise its use is alarm 10.
 //!
+//! # Load lists
+//!
+//! [`load`] has the table of their commands.
+//!
+//! [`load`]: crate::load
 //! [`Refusal::ControlBlock`]: crate::Refusal::ControlBlock
 //! [`Refusal::Map`]: crate::Refusal::Map
 
@@ -100,3 +105,16 @@ pub const MAP_PRESENT: u32 = 0x8000_0000;
 pub const MAP_WRITABLE: u32 = 0x4000_0000;
 /// Map entry: the frame's number f, the 512 bytes from real address 512 × f.
 pub const MAP_FRAME: u32 = 0x00FF_FFFF;
+
+/// Load list: the command that ends it.
+pub const LIST_END: u8 = 0x00;
+/// Load list: the command that moves the place, with an address of four bytes.
+pub const LIST_MOVE: u8 = 0x01;
+/// Load list: the command that puts a byte.
+pub const LIST_BYTE: u8 = 0x02;
+/// Load list: the command that puts four bytes.
+pub const LIST_FOUR: u8 = 0x03;
+/// Load list: the command that puts copies, with their count of two bytes and the byte.
+pub const LIST_COPIES: u8 = 0x04;
+/// Load list: the pieces that it may have, its commands 02h, 03h and 04h.
+pub const LIST_PIECES: usize = 4096;

@@ -1,6 +1,7 @@
 //! Each function by itself.
 
-use midesk::{numbers, Desk, Event, Mark, Refusal, STATE_BYTES};
+use midesk::{load, numbers, Desk, Event, Mark, Refusal, STATE_BYTES};
+use std::borrow::Borrow;
 
 fn put(memory: &mut [u8], at: usize, word: u32) {
     memory[at..at + 4].copy_from_slice(&word.to_be_bytes());
@@ -266,11 +267,14 @@ fn bytes_are_as_documented() {
 
 #[test]
 fn refusals_have_their_numbers() {
-    for number in 1..8 {
+    for number in (1..8).chain(17..20) {
         assert_eq!(Refusal::of(number).map(Refusal::number), Some(number));
     }
-    assert_eq!((Refusal::of(0), Refusal::of(8)), (None, None));
+    for number in [0, 8, 16, 20, u32::MAX] {
+        assert_eq!(Refusal::of(number), None);
+    }
     assert_eq!(Refusal::Stopped.to_string(), "the desk is stopped");
+    assert_eq!(Refusal::Outside.to_string(), "the list puts a byte outside memory");
 }
 
 #[test]
@@ -285,4 +289,238 @@ fn desks_can_move_between_threads() {
     let mut desk = Desk::fresh(&memory, 0, 256, 512).unwrap();
     let stopped = std::thread::spawn(move || desk.run(&mut memory, 9).map(|steps| (steps, desk.mark())));
     assert_eq!(stopped.join().unwrap(), Ok((1, Mark::Stopped(0))));
+}
+
+// ---- Load lists.
+
+fn to(address: u32) -> Vec<u8> {
+    [[0x01].as_slice(), &address.to_be_bytes()].concat()
+}
+
+fn byte(byte: u8) -> Vec<u8> {
+    vec![0x02, byte]
+}
+
+fn four(bytes: [u8; 4]) -> Vec<u8> {
+    [[0x03].as_slice(), &bytes].concat()
+}
+
+fn copies(count: u16, byte: u8) -> Vec<u8> {
+    [[0x04].as_slice(), &count.to_be_bytes(), &[byte]].concat()
+}
+
+/// These commands and the end.
+fn list(commands: &[impl Borrow<[u8]>]) -> Vec<u8> {
+    [commands.concat().as_slice(), &[0x00]].concat()
+}
+
+/// The byte that memory holds at this address before a load. No list of these tests puts one of them.
+fn old(at: usize) -> u8 {
+    0x80 | at as u8
+}
+
+/// Loads a list into a memory of old bytes that has others beside it: the answer and the memory. The list and the bytes
+/// beside the memory stay, and a refused list leaves the memory.
+fn loaded(length: usize, list: &[u8]) -> (Result<(), Refusal>, Vec<u8>) {
+    const BESIDE: usize = 64;
+    let before: Vec<u8> = (0..length).map(old).collect();
+    let mut bytes = [[0x55; BESIDE].as_slice(), &before, &[0x55; BESIDE]].concat();
+    let given = list.to_vec();
+    let answer = load(&mut bytes[BESIDE..BESIDE + length], &given);
+    assert_eq!(given, list);
+    assert!(bytes[..BESIDE].iter().chain(&bytes[BESIDE + length..]).all(|byte| *byte == 0x55), "a byte beside");
+    let memory = bytes[BESIDE..BESIDE + length].to_vec();
+    assert!(answer.is_ok() || memory == before, "a refused list has changed memory");
+    (answer, memory)
+}
+
+/// A list that loads: what it puts, each with its address. All other bytes are the old ones.
+fn puts(length: usize, list: &[u8]) -> Vec<(usize, u8)> {
+    let (answer, memory) = loaded(length, list);
+    assert_eq!(answer, Ok(()), "{list:X?}");
+    memory.into_iter().enumerate().filter(|(at, byte)| *byte != old(*at)).collect()
+}
+
+fn refusal(length: usize, list: &[u8]) -> Refusal {
+    loaded(length, list).0.expect_err("a list that loads")
+}
+
+#[test]
+fn a_list_puts_what_its_commands_say() {
+    assert_eq!(puts(512, &[0x00]), []);
+    assert_eq!(puts(512, &list(&[byte(7)])), [(0, 7)]);
+    assert_eq!(puts(512, &list(&[four([1, 2, 3, 4])])), [(0, 1), (1, 2), (2, 3), (3, 4)]);
+    assert_eq!(puts(512, &list(&[copies(3, 9)])), [(0, 9), (1, 9), (2, 9)]);
+    assert_eq!(puts(512, &list(&[copies(0, 9)])), []);
+    assert_eq!(puts(512, &list(&[to(0x102)])), []);
+    assert_eq!(puts(512, &list(&[to(0x102), byte(7)])), [(0x102, 7)]);
+    // The place goes on after each put, and stays after none.
+    let all = [byte(1), four([2, 3, 4, 5]), copies(2, 6), copies(0, 7), byte(8), to(3), byte(9), copies(1, 10)];
+    assert_eq!(puts(512, &list(&all)), [(0, 1), (1, 2), (2, 3), (3, 9), (4, 10), (5, 6), (6, 6), (7, 8)]);
+    // All four bytes of an address and both of a count matter, the highest first.
+    assert_eq!(puts(16_777_216, &list(&[to(0x0012_3456), byte(7)])), [(0x12_3456, 7)]);
+    assert_eq!(refusal(16_777_216, &list(&[to(0x0112_3456), byte(7)])), Refusal::Outside);
+    assert_eq!(puts(1024, &list(&[copies(0x0102, 7)])).len(), 0x102);
+    // Bytes that are commands elsewhere.
+    assert_eq!(puts(512, &list(&[byte(0), four([0, 1, 2, 3]), copies(2, 4)])).len(), 7);
+}
+
+#[test]
+fn a_later_put_wins() {
+    assert_eq!(puts(512, &list(&[byte(1), to(0), byte(2)])), [(0, 2)]);
+    let over = [copies(6, 1), to(1), four([2, 3, 4, 5]), to(2), copies(2, 6), to(3), byte(7)];
+    assert_eq!(puts(512, &list(&over)), [(0, 1), (1, 2), (2, 6), (3, 7), (4, 5), (5, 1)]);
+    assert_eq!(puts(512, &list(&[four([2, 3, 4, 5]), to(0), copies(3, 1)])), [(0, 1), (1, 1), (2, 1), (3, 5)]);
+}
+
+#[test]
+fn puts_reach_the_last_byte_of_memory() {
+    for length in [512, 1024, 65536, 66048, 16_777_216] {
+        let end = length as u32;
+        assert_eq!(puts(length, &list(&[to(end - 1), byte(7)])), [(length - 1, 7)]);
+        assert_eq!(puts(length, &list(&[to(end - 4), four([7; 4])])).len(), 4);
+        assert_eq!(puts(length, &list(&[to(end - 3), copies(3, 7)])).len(), 3);
+        // The last byte, then one past it.
+        assert_eq!(refusal(length, &list(&[to(end - 1), byte(7), byte(7)])), Refusal::Outside);
+        assert_eq!(refusal(length, &list(&[to(end - 4), four([7; 4]), copies(1, 7)])), Refusal::Outside);
+        // One past it, and further.
+        for past in [end, end + 1, end + 512, 2 * end] {
+            for put in [byte(7), four([7; 4]), copies(1, 7), copies(u16::MAX, 7)] {
+                assert_eq!(refusal(length, &list(&[to(past), put])), Refusal::Outside);
+            }
+        }
+        // Across the end, and then back into memory.
+        for part in 1..4 {
+            assert_eq!(refusal(length, &list(&[to(end - part), four([7; 4]), to(0), byte(7)])), Refusal::Outside);
+        }
+        for (before, count) in [(1, 2), (3, 4), (3, 512), (256, 257), (512, u16::MAX)] {
+            assert_eq!(refusal(length, &list(&[to(end - before), copies(count, 7)])), Refusal::Outside);
+        }
+    }
+    // The longest copy, up to the last byte and one further.
+    assert_eq!(puts(65536, &list(&[to(1), copies(u16::MAX, 7)])).len(), 65535);
+    assert_eq!(refusal(65536, &list(&[to(2), copies(u16::MAX, 7)])), Refusal::Outside);
+    assert_eq!(puts(512, &list(&[copies(512, 7)])).len(), 512);
+    assert_eq!(refusal(512, &list(&[copies(513, 7)])), Refusal::Outside);
+}
+
+#[test]
+fn moves_and_counts_of_0_are_never_outside() {
+    for place in [511, 512, 513, 0x0100_0000, 0x7FFF_FFFF, 0x8000_0000, u32::MAX - 1, u32::MAX] {
+        assert_eq!(puts(512, &list(&[to(place)])), []);
+        assert_eq!(puts(512, &list(&[to(place), copies(0, 7)])), []);
+        assert_eq!(puts(512, &list(&[to(place), copies(0, 7), to(5), byte(7)])), [(5, 7)]);
+    }
+    // Just past the last byte that was put.
+    assert_eq!(puts(512, &list(&[copies(512, 7), copies(0, 7)])).len(), 512);
+    // The place stays where it is.
+    assert_eq!(puts(512, &list(&[to(511), copies(0, 7), byte(7)])), [(511, 7)]);
+    assert_eq!(refusal(512, &list(&[to(512), copies(0, 7), byte(7)])), Refusal::Outside);
+}
+
+#[test]
+fn places_do_not_wrap_around() {
+    // In the longer memory all that a put past 2^32 could reach.
+    for length in [512, 66048] {
+        for back in 1..=5 {
+            let place = to(0u32.wrapping_sub(back));
+            for put in [byte(7), four([7; 4]), copies(1, 7), copies(back as u16, 7), copies(u16::MAX, 7)] {
+                assert_eq!(refusal(length, &list(&[place.clone(), put.clone()])), Refusal::Outside);
+                // So is the next one.
+                assert_eq!(refusal(length, &list(&[place.clone(), put, four([7; 4])])), Refusal::Outside);
+            }
+        }
+        // Copies up to the byte of 2^32 - 1, then one at 2^32.
+        let far = [to(u32::MAX - 65534), copies(u16::MAX, 7), byte(7)];
+        assert_eq!(refusal(length, &list(&far)), Refusal::Outside);
+    }
+}
+
+#[test]
+fn a_list_has_at_most_4096_pieces() {
+    for piece in [byte(7), four([7; 4]), copies(0, 7), copies(3, 7)] {
+        let put = puts(16384, &list(&[piece.repeat(4096)])).len();
+        assert_eq!(put, 4096 * puts(512, &list(&[piece.as_slice()])).len());
+        assert_eq!(refusal(16384, &list(&[piece.repeat(4097)])), Refusal::Pieces);
+    }
+    // Moves are no pieces.
+    assert_eq!(puts(512, &list(&[to(3).repeat(10_000)])), []);
+    let pairs = [to(3), byte(7)].concat();
+    assert_eq!(puts(512, &list(&[pairs.repeat(4096)])), [(3, 7)]);
+    assert_eq!(refusal(512, &list(&[pairs.repeat(4097)])), Refusal::Pieces);
+    // More pieces, whose count would be allowed if its low 16 bits were all.
+    assert_eq!(refusal(512, &list(&[copies(0, 7).repeat(65536)])), Refusal::Pieces);
+    assert_eq!(refusal(512, &list(&[copies(0, 7).repeat(65537)])), Refusal::Pieces);
+}
+
+#[test]
+fn a_list_is_whole() {
+    let whole = list(&[byte(1), to(0x10), four([1, 2, 3, 4]), copies(2, 5), to(0x20), byte(6)]);
+    assert_eq!(puts(512, &whole).len(), 8);
+    // Cut short everywhere, down to the empty list.
+    for length in 0..whole.len() {
+        assert_eq!(refusal(512, &whole[..length]), Refusal::Malformed, "{length} bytes");
+    }
+    // Each command by itself, with too few bytes and with no end.
+    for command in [byte(0), four([0; 4]), copies(0, 0), to(0)] {
+        for length in 0..=command.len() {
+            assert_eq!(refusal(512, &command[..length]), Refusal::Malformed);
+        }
+    }
+    // Any byte after the end, and an end that comes too early.
+    for after in 0..=255 {
+        assert_eq!(refusal(512, &[whole.as_slice(), &[after]].concat()), Refusal::Malformed);
+        assert_eq!(refusal(512, &[0x00, after]), Refusal::Malformed);
+    }
+    assert_eq!(refusal(512, &[[0x00].as_slice(), &whole].concat()), Refusal::Malformed);
+    // Unknown commands.
+    for unknown in 0x05..=0xFF {
+        assert_eq!(refusal(512, &list(&[vec![unknown]])), Refusal::Malformed);
+        assert_eq!(refusal(512, &list(&[byte(1), vec![unknown]])), Refusal::Malformed);
+        assert_eq!(refusal(512, &list(&[byte(1), vec![unknown, 0, 0, 0, 0], byte(1)])), Refusal::Malformed);
+    }
+}
+
+#[test]
+fn refusals_of_lists_are_tried_in_order() {
+    let malformed = [0x05];
+    let many = copies(0, 7).repeat(4097);
+    let outside = [to(512), byte(7), to(0), byte(7)].concat();
+    // Each two of them, in either order in the list: the lesser number.
+    let parts: [(&[u8], Refusal); 3] =
+        [(&malformed, Refusal::Malformed), (&many, Refusal::Pieces), (&outside, Refusal::Outside)];
+    for (first, a) in parts {
+        assert_eq!(refusal(512, &list(&[first])), a);
+        for (second, b) in parts {
+            let lesser = if a.number() < b.number() { a } else { b };
+            assert_eq!(refusal(512, &list(&[first, second])), lesser);
+        }
+    }
+    // Bytes after the end and a cut stand at the list's very end.
+    for (first, _) in parts {
+        assert_eq!(refusal(512, &list(&[first, &[0x00]])), Refusal::Malformed);
+        assert_eq!(refusal(512, first), Refusal::Malformed);
+    }
+    // The memory length comes before all of them.
+    for length in [0, 1, 511, 513, 768, 16_777_217, 16_777_728] {
+        for (part, _) in parts {
+            assert_eq!(refusal(length, &list(&[part])), Refusal::Length);
+        }
+        assert_eq!(refusal(length, &[]), Refusal::Length);
+        assert_eq!(refusal(length, &list(&[byte(7)])), Refusal::Length);
+    }
+}
+
+#[test]
+fn a_program_that_is_loaded_runs() {
+    // MOVE W data,R0, then HALT: the code at 512, the data at 768. With a byte outside memory nothing of it is loaded.
+    let code = [to(512), four([0x12, 0, 0, 0]), four([0, 3, 0, 2]), copies(6, 0)].concat();
+    let data = [to(768), four([0x12, 0x34, 0x56, 0x78])].concat();
+    let mut memory = vec![0xFF; 1024];
+    assert_eq!(load(&mut memory, &list(&[code.clone(), to(1024), byte(0)])), Err(Refusal::Outside));
+    assert_eq!(memory, vec![0xFF; 1024]);
+    assert_eq!(load(&mut memory, &list(&[data, code])), Ok(()));
+    let mut desk = Desk::fresh(&memory, 0, 256, 512).unwrap();
+    assert_eq!(desk.run(&mut memory, 9), Ok(2));
+    assert_eq!((desk.mark(), desk.register(0)), (Mark::Stopped(numbers::HALT), 0x1234_5678));
 }

@@ -1,7 +1,7 @@
 //! The numbers of the crate: those of the C header, which embed/c/constants.c holds against the calls, and what the
 //! calls do with them.
 
-use midesk::{numbers, Desk, Event, STATE_BYTES, VERSION};
+use midesk::{load, numbers, Desk, Event, Refusal, STATE_BYTES, VERSION};
 use std::collections::BTreeSet;
 
 const HEADER: &str = include_str!("../../include/midesk.h");
@@ -21,7 +21,7 @@ fn header(name: &str) -> u64 {
 #[test]
 fn constants_are_the_headers() {
     use numbers::*;
-    let table: [(&str, u64, &str); 25] = [
+    let table: [(&str, u64, &str); 31] = [
         ("SYSTEM_CALL", SYSTEM_CALL.into(), "MIDESK_CAUSE_SYSTEM_CALL"),
         ("ADDRESS", ADDRESS.into(), "MIDESK_ALARM_ADDRESS"),
         ("ABSENT", ABSENT.into(), "MIDESK_ALARM_ABSENT"),
@@ -46,6 +46,12 @@ fn constants_are_the_headers() {
         ("MAP_PRESENT", MAP_PRESENT.into(), "MIDESK_MAP_PRESENT"),
         ("MAP_WRITABLE", MAP_WRITABLE.into(), "MIDESK_MAP_WRITABLE"),
         ("MAP_FRAME", MAP_FRAME.into(), "MIDESK_MAP_FRAME"),
+        ("LIST_END", LIST_END.into(), "MIDESK_LIST_END"),
+        ("LIST_MOVE", LIST_MOVE.into(), "MIDESK_LIST_MOVE"),
+        ("LIST_BYTE", LIST_BYTE.into(), "MIDESK_LIST_BYTE"),
+        ("LIST_FOUR", LIST_FOUR.into(), "MIDESK_LIST_FOUR"),
+        ("LIST_COPIES", LIST_COPIES.into(), "MIDESK_LIST_COPIES"),
+        ("LIST_PIECES", LIST_PIECES as u64, "MIDESK_LIST_PIECES"),
         ("STATE_BYTES", STATE_BYTES as u64, "MIDESK_STATE_BYTES"),
     ];
     for (name, value, in_header) in table {
@@ -55,6 +61,29 @@ fn constants_are_the_headers() {
     let listed: BTreeSet<&str> = table.iter().map(|row| row.0).filter(|name| *name != "STATE_BYTES").collect();
     let public = NUMBERS.lines().filter_map(|line| line.strip_prefix("pub const ")?.split_once(": "));
     assert_eq!(listed, public.map(|(name, _)| name).filter(|name| !name.contains(' ')).collect());
+}
+
+#[test]
+fn refusals_are_the_headers() {
+    use Refusal::*;
+    let table = [
+        (Length, "LENGTH"),
+        (SystemBlock, "SYSTEM_BLOCK"),
+        (ControlBlock, "CONTROL_BLOCK"),
+        (Map, "MAP"),
+        (Status, "STATUS"),
+        (Level, "LEVEL"),
+        (Stopped, "STOPPED"),
+        (Malformed, "MALFORMED"),
+        (Pieces, "PIECES"),
+        (Outside, "OUTSIDE"),
+    ];
+    for (refusal, name) in table {
+        assert_eq!(u64::from(refusal.number()), header(&format!("MIDESK_REFUSED_{name}")), "{refusal:?}");
+    }
+    // No refusal of the header is left out.
+    let defined = HEADER.lines().filter_map(|line| line.strip_prefix("#define MIDESK_REFUSED_")?.split_once(' '));
+    assert_eq!(defined.map(|(name, _)| name).collect::<BTreeSet<_>>(), table.map(|row| row.1).into());
 }
 
 #[test]
@@ -147,4 +176,28 @@ fn entries_of_the_map_allow_what_they_say() {
     assert_eq!(load(MAP_PRESENT | MAP_FRAME), (Event::Entered(MAP_ENTRY), 0));
     assert_eq!(store(MAP_PRESENT | 2), (Event::Entered(READ_ONLY), 0));
     assert_eq!(store(MAP_PRESENT | MAP_WRITABLE | 2), (Event::Done, 0x5A));
+}
+
+#[test]
+fn lists_are_rows_of_these_commands() {
+    use numbers::{LIST_BYTE, LIST_COPIES, LIST_END, LIST_FOUR, LIST_MOVE, LIST_PIECES};
+    let mut memory = [0xEE; 512];
+    let list = [
+        [LIST_BYTE, 1].as_slice(),
+        &[LIST_FOUR, 2, 3, 4, 5],
+        &[LIST_COPIES, 0, 2, 6],
+        &[LIST_MOVE, 0, 0, 1, 0xFF],
+        &[LIST_BYTE, 7],
+        &[LIST_END],
+    ]
+    .concat();
+    assert_eq!(load(&mut memory, &list), Ok(()));
+    assert_eq!(memory[..8], [1, 2, 3, 4, 5, 6, 6, 0xEE]);
+    assert_eq!(memory[510..], [0xEE, 7]);
+    assert_eq!(load(&mut memory, &[LIST_COPIES + 1, LIST_END]), Err(Refusal::Malformed));
+    let mut pieces = [LIST_COPIES, 0, 0, 0].repeat(LIST_PIECES);
+    pieces.push(LIST_END);
+    assert_eq!(load(&mut memory, &pieces), Ok(()));
+    pieces.splice(0..0, [LIST_BYTE, 0]);
+    assert_eq!(load(&mut memory, &pieces), Err(Refusal::Pieces));
 }

@@ -1,15 +1,16 @@
-//! The desk against the model, in one process: the generator's cases and random sequences of calls, valid and damaged.
-//! MIDESK_SEED, MIDESK_FIRST and MIDESK_COUNT choose other random sequences: the seed, the first one's index, how many.
+//! The desk against the model, in one process: the generator's cases, random sequences of calls, valid and damaged, and
+//! random load lists. MIDESK_SEED, MIDESK_FIRST and MIDESK_COUNT choose other random sequences: the seed, the first
+//! one's index, how many; MIDESK_LISTS_FIRST and MIDESK_LISTS_COUNT other sequences of lists, 10 lists in each.
 //!
 //! A sequence that differs is named by the command that writes it alone, to be used in `model`.
 
 use midesk::{Desk, Event};
-use model::sequences::{random, Act, Sequence};
+use model::sequences::{lists, random, Act, Sequence};
 
 const BESIDE: usize = 64;
 const FILL: u8 = 0xA5;
 
-/// A memory with filled bytes before and after it.
+/// A memory or a list with filled bytes before and after it.
 struct Lent {
     bytes: Vec<u8>,
     length: usize,
@@ -54,6 +55,7 @@ fn replay(sequence: &Sequence) -> Result<(), String> {
     let mut desk = Desk::from_bytes(sequence.state);
     for (i, (act, left)) in sequence.acts.iter().enumerate() {
         let mut steps = 0;
+        let mut list_kept = true;
         let answer = match act {
             Act::Fresh { system, control, start } => {
                 let made = Desk::fresh(lent.memory(), *system, *control, *start);
@@ -69,6 +71,12 @@ fn replay(sequence: &Sequence) -> Result<(), String> {
                 refusal_number(&answer)
             }
             Act::Request(level) => refusal_number(&desk.request(*level)),
+            Act::Load(list) => {
+                let mut bytes = Lent::new(list);
+                let answer = refusal_number(&midesk::load(lent.memory(), bytes.memory()));
+                list_kept = bytes.memory() == list && bytes.untouched();
+                answer
+            }
             Act::State(bytes) => {
                 desk = Desk::from_bytes(*bytes);
                 continue;
@@ -98,6 +106,8 @@ fn replay(sequence: &Sequence) -> Result<(), String> {
             "the memory".to_string()
         } else if !lent.untouched() {
             "a byte beside the memory".to_string()
+        } else if !list_kept {
+            "the list, or a byte beside it".to_string()
         } else {
             continue;
         };
@@ -110,15 +120,15 @@ fn number(name: &str, otherwise: u64) -> u64 {
     std::env::var(name).map_or(otherwise, |text| text.parse().expect("a number"))
 }
 
-/// Replays them all and prints how many differ. The model's program `sequences` with the arguments `list` writes them
-/// from number `first` on.
-fn replay_all(what: &str, list: &str, first: usize, sequences: impl Iterator<Item = Sequence>) {
+/// Replays them all and prints how many differ. The model's program and arguments `writer` write them from number
+/// `first` on.
+fn replay_all(what: &str, writer: &str, first: usize, sequences: impl Iterator<Item = Sequence>) {
     let (mut count, mut calls, mut differ) = (0, 0, 0);
     for sequence in sequences {
         if let Err(difference) = replay(&sequence) {
             if differ < 5 {
                 let number = first + count;
-                eprintln!("cargo run --release --bin sequences -- {list} only {number}: {difference}");
+                eprintln!("cargo run --release --bin {writer} only {number}: {difference}");
             }
             differ += 1;
         }
@@ -131,7 +141,7 @@ fn replay_all(what: &str, list: &str, first: usize, sequences: impl Iterator<Ite
 
 #[test]
 fn cases_of_the_generator() {
-    replay_all("cases of the generator", "1 0", 0, random::stored().into_iter());
+    replay_all("cases of the generator", "sequences -- 1 0", 0, random::stored().into_iter());
 }
 
 #[test]
@@ -139,7 +149,23 @@ fn random_sequences() {
     let seed = number("MIDESK_SEED", 1);
     let from = number("MIDESK_FIRST", 6000) as u32;
     let to = from + number("MIDESK_COUNT", 6000) as u32;
-    let first = random::stored().len() + from as usize;
+    let first = random::stored().len() + (random::LOADS + from) as usize;
     let sequences = (from..to).map(|index| random::sequence(seed, index));
-    replay_all("random sequences", &format!("{seed} {to}"), first, sequences);
+    replay_all("random sequences", &format!("sequences -- {seed} {to}"), first, sequences);
+}
+
+#[test]
+fn random_loads() {
+    let seed = number("MIDESK_SEED", 1);
+    let sequences = (0..random::LOADS).map(|index| random::loads(seed, index));
+    replay_all("random loads", &format!("sequences -- {seed} 0"), random::stored().len(), sequences);
+}
+
+#[test]
+fn random_lists() {
+    let seed = number("MIDESK_SEED", 1);
+    let from = number("MIDESK_LISTS_FIRST", 20000) as u32;
+    let to = from + number("MIDESK_LISTS_COUNT", 2000) as u32;
+    let sequences = (from..to).map(|index| lists::sequence(seed, index));
+    replay_all("random lists", &format!("lists -- {seed} {to}"), from as usize, sequences);
 }

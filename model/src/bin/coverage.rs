@@ -1,8 +1,8 @@
 //! Prints what the stored cases reach: `coverage FILE`. Ends with 1 if
-//! anything that document 01 names isn't reached.
+//! anything that document 01 or request F-1 names isn't reached.
 
 use model::cover::Cover;
-use model::{flag_table, store, table};
+use model::{flag_table, list_table, store, table};
 
 fn main() {
     let path = std::env::args().nth(1).expect("usage: coverage FILE");
@@ -18,6 +18,7 @@ fn main() {
     table::alarms(&cover, &mut all);
     table::entries(&cover, &mut all);
     table::refusals(&cover, &mut all);
+    list_table::lists(&cover, &mut all);
     flag_table::levels(&cover, &mut all);
     flag_table::flags(&cover, &mut all);
     println!("{} cells to reach, {} missing, {} impossible by the rules", all.cells, all.missing.len(), all.impossible);

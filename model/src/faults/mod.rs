@@ -24,11 +24,10 @@ fn differs(desk: &Desk, case: &Case, expected: &Expected) -> bool {
     let mut memory = case.image.clone();
     let mut state = case.start;
     for (call, wanted) in case.calls.iter().zip(&expected.outcomes) {
-        let call = match call {
-            Call::Run(n) => Call::Run((*n).min(STEPS)),
-            other => *other,
+        let outcome = match call {
+            Call::Run(n) => desk.make(&Call::Run((*n).min(STEPS)), &state, &mut memory),
+            other => desk.make(other, &state, &mut memory),
         };
-        let outcome = desk.make(call, &state, &mut memory);
         if outcome != *wanted {
             return true;
         }

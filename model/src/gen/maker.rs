@@ -85,7 +85,7 @@ impl Maker {
 
     /// Makes and keeps a call.
     pub fn call(&mut self, call: Call) -> Outcome {
-        let outcome = make(call, &self.state, &mut self.memory);
+        let outcome = make(&call, &self.state, &mut self.memory);
         self.state = outcome.state;
         self.calls.push(call);
         self.last = Some(outcome);
@@ -94,7 +94,7 @@ impl Maker {
 
     /// A step of the desk that isn't kept as a call.
     pub fn silent_step(&mut self) -> Outcome {
-        let outcome = make(Call::Step, &self.state, &mut self.memory);
+        let outcome = make(&Call::Step, &self.state, &mut self.memory);
         self.state = outcome.state;
         self.last = Some(outcome);
         outcome
@@ -203,7 +203,7 @@ impl Maker {
             let at = (self.state.system_block + 8 * cause + 4) as usize;
             memory[at..at + 4].copy_from_slice(&KERNEL.to_be_bytes());
         }
-        let outcome = make(Call::Step, &self.state, &mut memory);
+        let outcome = make(&Call::Step, &self.state, &mut memory);
         if let Event::Entry { cause, .. } = outcome.event {
             self.decide(cause);
         }

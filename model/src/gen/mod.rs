@@ -1,9 +1,13 @@
 //! The case generator.
 
 pub mod alarms;
+pub mod any_list;
 pub mod entries;
 pub mod grid;
 pub mod layout;
+pub mod list_programs;
+pub mod list_refusals;
+pub mod lists;
 pub mod maker;
 pub mod orders;
 pub mod pick;
@@ -60,5 +64,12 @@ pub fn all() -> Vec<(&'static str, Vec<Case>)> {
         ("special", special::special()),
         ("walks", walks::walks()),
         ("noise", walks::noise()),
+        ("load puts", lists::puts()),
+        ("load 17", list_refusals::unreadable()),
+        ("load 18", list_refusals::pieces_counted()),
+        ("load 19", list_refusals::places()),
+        ("load orders", list_refusals::orders()),
+        ("load programs", list_programs::programs()),
+        ("load mixed", lists::mixed()),
     ]
 }

@@ -7,6 +7,8 @@
 //! (FFFFFFFFh while it runs), four bytes each; the pending set, two bytes.
 
 pub mod acts;
+pub mod lists;
+pub mod program;
 pub mod random;
 pub mod session;
 pub mod stream;
@@ -69,6 +71,8 @@ pub enum Act {
     },
     /// Lends a memory of another length from here on: cut, or longer by zeros.
     Length(u32),
+    /// Loads a list into the memory.
+    Load(Vec<u8>),
 }
 
 /// Bytes of the memory that a call changed.

@@ -3,7 +3,9 @@
 use super::acts::*;
 use super::session::Session;
 use super::*;
+use crate::asm;
 use crate::gen::layout::{layout, Layout};
+use crate::gen::list_programs::parts;
 use crate::gen::refusals::{any_level, good_state};
 use crate::gen::walks::{any_kinds, noise_case, prepare, walk};
 use crate::gen::{all, known_bytes};
@@ -33,6 +35,38 @@ pub fn sequence(seed: u64, index: u32) -> Sequence {
         65..=84 => damaged(rng),
         _ => freshes(rng),
     }
+}
+
+/// How many sequences of loads there are of a seed.
+pub const LOADS: u32 = 600;
+
+/// Number `index` of them: random lists into memories of any length, and commands
+/// that come as a list and are then run.
+pub fn loads(seed: u64, index: u32) -> Sequence {
+    let rng = &mut lists::numbers(seed, "loads", index);
+    let known = known_bytes();
+    let length = match rng.below(20) {
+        0 => bad_length(rng),
+        1 | 2 => 512 * (9 + rng.below(120)),
+        3 if index % 8 == 7 => LONGEST - 512 + 512 * rng.below(3),
+        _ => lists::small_length(rng),
+    };
+    let mut session = lists::begin(rng, "loads", length);
+    for _ in 0..lists::LOADS {
+        if rng.chance(75) {
+            lists::load(&mut session, rng);
+            continue;
+        }
+        let at = rng.below(length + 1);
+        let bytes = code(rng, &known, length.max(1));
+        let commands = parts(rng, &[(at, bytes)]);
+        session.call(Act::Load(asm::list(&commands)));
+        let (system, control) = (block(rng, length, 256), block(rng, length, 80));
+        session.call(Act::Fresh { system, control, start: at });
+        let n = u64::from(rng.below(9));
+        session.run(n, MOST);
+    }
+    session.finish()
 }
 
 fn walked(rng: &mut Rng) -> Sequence {

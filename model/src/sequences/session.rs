@@ -4,6 +4,7 @@ use super::*;
 use crate::case::{Call, Case};
 use crate::checks;
 use crate::desk;
+use crate::load;
 
 pub struct Session {
     pub memory: Vec<u8>,
@@ -56,6 +57,10 @@ impl Session {
                 let answer = desk::request(&self.state, level);
                 (u64::from(answer.refusal), 0, answer.state)
             }
+            Act::Load(ref list) => {
+                let answer = load::load(&mut self.memory, list);
+                (u64::from(answer), 0, self.state)
+            }
             _ => panic!("no call"),
         };
         let left = Left { answer, steps, state: packed(&state), changes: changes(&before, &self.memory) };
@@ -100,11 +105,14 @@ impl Session {
     pub fn of_case(family: &'static str, case: &Case) -> Session {
         let mut session = Session::new(family, case.image.clone(), packed(&case.start));
         for call in &case.calls {
-            session.call(match *call {
+            session.call(match call {
                 Call::Step => Act::Step,
-                Call::Run(n) => Act::Run(u64::from(n)),
-                Call::Request(level) => Act::Request(level),
-                Call::Fresh { system, control, start } => Act::Fresh { system, control, start },
+                Call::Run(n) => Act::Run(u64::from(*n)),
+                Call::Request(level) => Act::Request(*level),
+                Call::Fresh { system, control, start } => {
+                    Act::Fresh { system: *system, control: *control, start: *start }
+                }
+                Call::Load(list) => Act::Load(list.clone()),
             });
         }
         session

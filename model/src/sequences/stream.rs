@@ -21,7 +21,8 @@
 //!     4 state     90 bytes that the caller puts into the state
 //!     5 memory    changes that the caller makes in the memory
 //!     6 length    u32 memory length from here on: cut, or longer by zeros
-//!   after 0 to 3: 90 bytes of state, and the changes of the memory by the call
+//!     7 load      u32 n, then the n bytes of the list; then u32 answer
+//!   after 0 to 3 and 7: 90 bytes of state, and the changes of the memory by the call
 //!
 //! Changes:
 //!   u32       number of places, each:
@@ -79,6 +80,11 @@ fn act_to(out: &mut Vec<u8>, act: &Act, left: Option<&Left>) {
         Act::Length(length) => {
             out.push(6);
             u32_to(out, *length);
+        }
+        Act::Load(list) => {
+            out.push(7);
+            u32_to(out, list.len() as u32);
+            out.extend(list);
         }
     }
     let Some(left) = left else { return };

@@ -2,6 +2,7 @@
 
 use crate::case::play;
 use crate::gen;
+use crate::load;
 use crate::rng::Rng;
 use crate::sequences::session::Session;
 use crate::sequences::*;
@@ -45,7 +46,8 @@ fn changes_lead_from_old_to_new() {
 
 #[test]
 fn a_case_as_a_sequence_says_the_same() {
-    for case in gen::entries::interrupts().iter().chain(&gen::refusals::refusals()) {
+    let lists = gen::list_programs::programs();
+    for case in gen::entries::interrupts().iter().chain(&gen::refusals::refusals()).chain(&lists) {
         let expected = play(case);
         let sequence = Session::of_case("case", case).finish();
         let mut memory = sequence.memory.clone();
@@ -67,4 +69,38 @@ fn same_sequences_each_time() {
         assert!(random::sequence(3, index) == random::sequence(3, index));
     }
     assert!(stream::body(&random::sequence(3, 1)) != stream::body(&random::sequence(4, 1)));
+}
+
+#[test]
+fn random_lists_have_every_answer() {
+    let mut answers = std::collections::BTreeMap::new();
+    for index in 0..400 {
+        let sequence = lists::sequence(3, index);
+        assert!(sequence == lists::sequence(3, index));
+        assert_eq!(sequence.calls(), lists::LOADS);
+        let mut memory = sequence.memory.clone();
+        for (act, left) in &sequence.acts {
+            let (Act::Load(list), Some(left)) = (act, left) else { panic!("no load") };
+            let mut after = memory.clone();
+            assert_eq!(u64::from(load::load(&mut after, list)), left.answer);
+            for change in &left.changes {
+                memory[change.at as usize..][..change.bytes.len()].copy_from_slice(&change.bytes);
+            }
+            assert!(memory == after);
+            assert_eq!((left.state, left.steps), (sequence.state, 0));
+            *answers.entry(left.answer).or_insert(0) += 1;
+        }
+    }
+    assert_eq!(answers.keys().copied().collect::<Vec<_>>(), [0, 1, 17, 18, 19]);
+    assert!(answers[&0] > 1_500 && answers[&17] > 500 && answers[&19] > 200, "{answers:?}");
+}
+
+#[test]
+fn loads_among_other_calls() {
+    for index in 0..60 {
+        let sequence = random::loads(3, index);
+        assert!(sequence == random::loads(3, index));
+        let loads = sequence.acts.iter().filter(|(act, _)| matches!(act, Act::Load(_))).count();
+        assert_eq!(loads, lists::LOADS);
+    }
 }

@@ -6,7 +6,8 @@ use crate::store;
 
 #[test]
 fn written_is_read_back() {
-    let cases = gen::refusals::refusals().into_iter().chain(gen::entries::interrupts());
+    let lists = gen::lists::puts().into_iter().chain(gen::list_programs::programs());
+    let cases = gen::refusals::refusals().into_iter().chain(gen::entries::interrupts()).chain(lists);
     let pairs: Vec<_> = cases
         .filter(|case| case.image.len() <= store::SMALL)
         .map(|case| {
@@ -22,4 +23,5 @@ fn written_is_read_back() {
 fn same_cases_each_time() {
     assert!(gen::grid::grid() == gen::grid::grid());
     assert!(gen::resumes::resumes() == gen::resumes::resumes());
+    assert!(gen::lists::mixed() == gen::lists::mixed());
 }

@@ -88,7 +88,7 @@ add-result-3 c = search needs
 -- src/lib.rt:29:1
 returns : tie.Need-returns
 returns c =
-    (rw (c .before .c .given .1), (rw (c .before .c .given .1), search needs))
+    (rw (c .before .before .c .given .1), (rw (c .before .before .c .given .1), search needs))
 
 -- src/lib.rt:29:1
 same-length : tie.Need-same-length

@@ -7,7 +7,7 @@ use Rattle.lists.proofs.Walk.past.Tie as tie
 
 returns : tie.Need-returns
 unfolding pastCommand
-returns c = (simp (c .before .c .given .1), search needs)
+returns c = (simp (c .before .before .c .given .1), search needs)
 
 returns-2 : tie.Need-returns-2
 unfolding pastCommand

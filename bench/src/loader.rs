@@ -1,0 +1,32 @@
+//! The ways to load a list that are compared, behind one call.
+
+use crate::plain;
+
+#[derive(Clone, Copy, PartialEq, Eq, Debug)]
+pub enum Loader {
+    Proved,
+    Plain,
+}
+
+pub const LOADERS: [Loader; 2] = [Loader::Proved, Loader::Plain];
+
+impl Loader {
+    pub const fn name(self) -> &'static str {
+        match self {
+            Loader::Proved => "proved",
+            Loader::Plain => "plain",
+        }
+    }
+
+    pub fn named(name: &str) -> Option<Loader> {
+        LOADERS.into_iter().find(|loader| loader.name() == name)
+    }
+
+    /// Loads a list, or gives the number of the refusal.
+    pub fn load(self, memory: &mut [u8], list: &[u8]) -> Result<(), u32> {
+        match self {
+            Loader::Proved => midesk::load(memory, list).map_err(|refusal| refusal.number()),
+            Loader::Plain => plain::load(memory, list),
+        }
+    }
+}
