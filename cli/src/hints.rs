@@ -1,9 +1,11 @@
-//! Where to look after an alarm: which map entry, which block, which rule.
+//! Where to look after an alarm: which map entry, which block, which rule; and after the refusal of a load list.
 
 use crate::decode::{Fields, Trouble};
 use crate::diagnose::Finding;
 use crate::effect;
 use crate::forms;
+use crate::image;
+use crate::load::{self, Malformed, Wrong};
 use crate::machine::{self, Known};
 use crate::neighbours;
 use crate::notation::hexadecimal;
@@ -117,10 +119,7 @@ pub fn map_name(known: &Known, base: u32) -> String {
 
 /// `4 pages`.
 pub fn pages(length: u32) -> String {
-    match length {
-        1 => "1 page".to_string(),
-        _ => format!("{} pages", words::count(u64::from(length))),
-    }
+    words::counted(u64::from(length), "page", "pages")
 }
 
 fn up_to(length: u32) -> String {
@@ -198,6 +197,34 @@ pub fn rule_of(fields: &Fields, rule: Operand) -> Option<String> {
         Role::Address => Some(format!("{named} has no address, and one is needed")),
         _ => Some(format!("{named} cannot be written to")),
     }
+}
+
+/// Where to look in a load list that is refused.
+pub fn of_list(wrong: &Wrong, list: &[u8]) -> Hint {
+    let text = match wrong {
+        Wrong::Malformed(Malformed::Unknown { .. }) if image::is_text(list) => {
+            "this is text; commented hexadecimal, whose name ends in .hex, becomes a list by `desk asm FILE.hex -o FILE.load`".to_string()
+        }
+        Wrong::Malformed(Malformed::Unknown { .. }) => {
+            "the commands before it, which `desk load FILE` shows: one may lack a byte or have one too many".to_string()
+        }
+        Wrong::Malformed(Malformed::CutShort { .. } | Malformed::NoEnd { .. }) => {
+            "the file's length: its end may be missing, or a command before it lack a byte".to_string()
+        }
+        Wrong::Malformed(Malformed::After { .. }) => {
+            "the 00h: where it is no end, a command before it has a byte too many; two lists are two files".to_string()
+        }
+        Wrong::Pieces { .. } => {
+            "how bytes are put: one 03h puts four bytes, one 04h up to 65,535 copies of a byte".to_string()
+        }
+        Wrong::Outside { put, .. } if put.end() > image::LARGEST as u64 => {
+            format!("the place, since no memory is longer than {}", load::length_words(image::LARGEST))
+        }
+        Wrong::Outside { .. } => {
+            format!("--memory, since all that the list puts needs {}", load::length_words(load::least_length(list)))
+        }
+    };
+    Hint::new("look at", text)
 }
 
 /// What there is instead of a command.

@@ -1,8 +1,10 @@
-//! What a FILE is: a source (.mi), commented hexadecimal (.hex) or the bytes themselves, into one image.
+//! What a FILE is: a source (.mi), commented hexadecimal (.hex), a load list (.load) or the bytes themselves, into one
+//! image.
 
 use crate::names::Names;
 use crate::table::Size;
 use crate::{asm, hex, list, output};
+use midesk::Refusal;
 use std::fmt;
 use std::fs::File;
 use std::io::Read;
@@ -59,8 +61,18 @@ pub struct Complaint {
     pub line: usize,
     pub column: usize,
     pub sentence: String,
-    /// The file could not be read at all.
-    pub unread: bool,
+    pub reason: Reason,
+}
+
+/// Why a file is not used: for the exit status.
+#[derive(Clone, Copy, PartialEq, Eq, Debug)]
+pub enum Reason {
+    /// Its content is not usable.
+    Content,
+    /// It could not be read at all.
+    Unread,
+    /// The library refused it.
+    Refused(Refusal),
 }
 
 impl fmt::Display for Complaint {
@@ -84,10 +96,20 @@ pub const LARGEST: usize = 16_777_216;
 
 /// The image of a file. The memory is filled up with zeros to a multiple of 512, at least 512.
 pub fn load(path: &Path) -> Result<Image, Vec<Complaint>> {
+    load_into(path, None)
+}
+
+/// The image of a file. A load list is loaded into a memory of this length, if one is given; the others do not heed it.
+pub fn load_into(path: &Path, length: Option<usize>) -> Result<Image, Vec<Complaint>> {
     let file = path.display().to_string();
     match ending(path).as_str() {
         "mi" => Ok(asm::assemble(&file, &text(path, read_whole(path)?)?)?.image),
         "hex" => named(&file, hex::bytes(&file, &read_whole(path)?)?, Vec::new()),
+        crate::load::ENDING => {
+            let list = read(path)?;
+            let memory = crate::load::memory(&list, length).map_err(|refused| refused.complaints(&file))?;
+            named(&file, memory, Vec::new())
+        }
         ending => {
             let bytes = read_whole(path)?;
             let warnings = match is_text(&bytes) {
@@ -110,7 +132,7 @@ pub fn ending(path: &Path) -> String {
 }
 
 /// Whether bytes are printable characters and line ends alone.
-fn is_text(bytes: &[u8]) -> bool {
+pub fn is_text(bytes: &[u8]) -> bool {
     let plain = |byte: &u8| matches!(byte, b' '..=b'~' | b'\t' | b'\n' | b'\r' | 0x80..);
     bytes.iter().all(plain) && std::str::from_utf8(bytes).is_ok()
 }
@@ -141,7 +163,7 @@ const LARGEST_FILE: u64 = 1 << 28;
 /// The bytes of a file.
 pub fn read(path: &Path) -> Result<Vec<u8>, Vec<Complaint>> {
     let file = path.display().to_string();
-    let wrong = |sentence: String| vec![Complaint { unread: true, ..complaint(&file, 0, 0, sentence) }];
+    let wrong = |sentence: String| vec![Complaint { reason: Reason::Unread, ..complaint(&file, 0, 0, sentence) }];
     let opened = File::open(path).map_err(|e| wrong(format!("cannot be read: {}", output::reason(&e))))?;
     let mut content = Vec::new();
     opened
@@ -184,12 +206,17 @@ fn text(path: &Path, mut bytes: Vec<u8>) -> Result<String, Vec<Complaint>> {
 }
 
 pub fn complaint(file: &str, line: usize, column: usize, sentence: String) -> Complaint {
-    Complaint { file: file.to_string(), line, column, sentence, unread: false }
+    Complaint { file: file.to_string(), line, column, sentence, reason: Reason::Content }
+}
+
+/// The least memory that has room for so many bytes: whole frames, at least one.
+pub fn whole_frames(bytes: usize) -> usize {
+    bytes.div_ceil(512).max(1) * 512
 }
 
 /// The image of plain bytes, with blocks and start where `trace` has them.
 pub fn of_bytes(mut memory: Vec<u8>) -> Image {
-    let length = memory.len().div_ceil(512).max(1) * 512;
+    let length = whole_frames(memory.len());
     memory.resize(length, 0);
     Image {
         memory,

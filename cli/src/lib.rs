@@ -21,6 +21,7 @@ pub mod image;
 pub mod json;
 pub mod list;
 pub mod lists;
+pub mod load;
 pub mod machine;
 pub mod map;
 pub mod names;

@@ -1,6 +1,6 @@
 //! `desk VERB ..`: finds the verb. Each verb is a module with a `main` that takes its arguments and gives the exit status.
 
-use desk::{asm, debug, help, list, map, output, picture, run};
+use desk::{asm, debug, help, list, load, map, output, picture, run};
 use std::process::ExitCode;
 
 type Verb = fn(&[String]) -> u8;
@@ -10,6 +10,7 @@ const VERBS: &[(&str, Verb)] = &[
     ("debug", debug::main),
     ("help", help::main),
     ("list", list::main),
+    ("load", load::main),
     ("map", map::main),
     ("picture", picture::main),
     ("run", run::main),

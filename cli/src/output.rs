@@ -1,6 +1,7 @@
 //! Writing to standard output and standard error without a panic where nobody reads.
 
-use crate::options;
+use crate::image::{Complaint, Reason};
+use crate::{options, setup};
 use std::cell::RefCell;
 use std::fs::Metadata;
 use std::io::{self, Write};
@@ -33,19 +34,20 @@ pub const BAD_INPUT: u8 = 65;
 pub const NO_INPUT: u8 = 66;
 pub const CANNOT_WRITE: u8 = 74;
 
-/// Tells what is wrong with a file, a line each, and gives the exit status.
-pub fn complain(complaints: &[crate::image::Complaint]) -> u8 {
+/// Tells what is wrong with a file, a line each, and gives the exit status. All of it has one reason.
+pub fn complain(complaints: &[Complaint]) -> u8 {
     for complaint in complaints {
         err(&format!("{complaint}\n"));
     }
-    match complaints.iter().any(|complaint| complaint.unread) {
-        true => NO_INPUT,
-        false => BAD_INPUT,
+    match complaints.first().map(|complaint| complaint.reason) {
+        Some(Reason::Unread) => NO_INPUT,
+        Some(Reason::Refused(refusal)) => setup::refusal_status(refusal),
+        Some(Reason::Content) | None => BAD_INPUT,
     }
 }
 
 /// Tells what may be wrong with a file that can be used all the same, a line each.
-pub fn warn(warnings: &[crate::image::Complaint]) {
+pub fn warn(warnings: &[Complaint]) {
     for warning in warnings {
         err(&format!("{}\n", warning.as_warning()));
     }

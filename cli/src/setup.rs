@@ -3,7 +3,7 @@
 use crate::image::{self, Image};
 use crate::machine::Machine;
 use crate::options::{self, Given};
-use crate::output;
+use crate::{output, words};
 use midesk::Refusal;
 use std::path::Path;
 
@@ -15,9 +15,11 @@ pub fn refusal_status(refusal: Refusal) -> u8 {
 /// The image of the file, with memory, blocks and start as the options say; else the exit status, after a sentence.
 pub fn image(verb: &str, given: &Given) -> Result<Image, u8> {
     let file = given.operands.first().map_or("", String::as_str);
-    let mut image = read(file)?;
+    let usage = |sentence: String| options::usage(verb, &sentence);
+    let length = memory_length(given).map_err(usage)?;
+    let mut image = read(file, length)?;
     output::warn(&image.warnings);
-    apply(&mut image, given).map_err(|sentence| options::usage(verb, &sentence))?;
+    apply(&mut image, given, length).map_err(usage)?;
     if let Some(words) = doubtful_start(&image).filter(|_| given.has("--start")) {
         output::err(&format!("desk {verb}: warning: {words}\n"));
     }
@@ -47,7 +49,7 @@ pub fn machine(verb: &str, given: &Given) -> Result<Machine, u8> {
     let (length, system, control) = (image.memory.len(), image.system, image.control);
     Machine::fresh(image).map_err(|refusal| {
         let what = match refusal {
-            Refusal::Length => format!("it has {length} bytes; allowed are multiples of 512, up to 16777216"),
+            Refusal::Length => words::memory_length(length),
             Refusal::SystemBlock => format!("it is at {system:X}h with 256 bytes, the memory has {length:X}h"),
             _ => format!("it is at {control:X}h with 80 bytes, the memory has {length:X}h"),
         };
@@ -56,15 +58,20 @@ pub fn machine(verb: &str, given: &Given) -> Result<Machine, u8> {
     })
 }
 
-fn read(file: &str) -> Result<Image, u8> {
-    image::load(Path::new(file)).map_err(|complaints| output::complain(&complaints))
+fn read(file: &str, length: Option<usize>) -> Result<Image, u8> {
+    image::load_into(Path::new(file), length).map_err(|complaints| output::complain(&complaints))
 }
 
-fn apply(image: &mut Image, given: &Given) -> Result<(), String> {
+/// The length that --memory gives.
+pub fn memory_length(given: &Given) -> Result<Option<usize>, String> {
+    let Some(bytes) = given.count("--memory")? else { return Ok(None) };
+    let length = usize::try_from(bytes).ok().filter(|length| *length <= image::LARGEST);
+    length.map(Some).ok_or_else(|| format!("--memory can be at most {}", image::LARGEST))
+}
+
+fn apply(image: &mut Image, given: &Given, length: Option<usize>) -> Result<(), String> {
     let names = image.names.clone();
-    if let Some(bytes) = given.count("--memory")? {
-        let length = usize::try_from(bytes).ok().filter(|length| *length <= image::LARGEST);
-        let length = length.ok_or_else(|| format!("--memory can be at most {}", image::LARGEST))?;
+    if let Some(length) = length {
         if length < image.memory.len() {
             return Err(format!("--memory {length} is less than the {} bytes of the file", image.memory.len()));
         }

@@ -61,7 +61,7 @@ const fn output(text: &'static str) -> Opt {
 }
 
 const MEMORY: Opt =
-    with("--memory", "BYTES", "the memory's length; without it that of FILE, in whole frames. The rest is zeros");
+    with("--memory", "BYTES", "the memory's length; without it that of FILE, in whole frames; of a load list up to the last byte that it puts. The rest is zeros");
 const SYSTEM: Opt = with("--system", "ADDRESS", "where the system block is, if not where FILE has it");
 const CONTROL: Opt = with("--control", "ADDRESS", "where the first control block is, if not where FILE has it");
 const START: Opt = with("--start", "ADDRESS", "R15 of the fresh desk, if not as FILE has it");
@@ -169,7 +169,7 @@ pub const VERBS: &[Verb] = &[
         operands: "SOURCE",
         count: (1, 1),
         summary: "assembles a source in MI's notation",
-        options: &[output("the file for the bytes")],
+        options: &[output("the file for the bytes; where its name ends in .load, for a load list that loads them")],
         text: &[
             Say("Errors come with line, column, what was found and what was expected, several in one go. In the repository docs/MACHINE.md tells more of the language, under Sources, and examples/ has programs."),
             Table(crate::asm::reference::LINES),
@@ -179,6 +179,25 @@ pub const VERBS: &[Verb] = &[
             Table(&crate::table::SUMMARY),
             Say("Data, places, blocks and maps."),
             Table(crate::asm::reference::DIRECTIVES),
+            Say("A load list puts the bytes that the source gives, RES and ALI among them, part by part; zeros that it does not give are not put, but for the last byte of a memory that MEMORY makes longer. No list that puts each byte once has fewer pieces; where they would be more than 4,096, none is written. SOURCE may be commented hexadecimal too (.hex), of which the bytes are written as they are: for a FILE.load they must be a list."),
+        ],
+    },
+    Verb {
+        name: "load",
+        operands: "FILE",
+        count: (1, 1),
+        summary: "says in words what a load list puts where, and what is wrong with it",
+        options: &[with(
+            "--memory",
+            "BYTES",
+            "the length of the memory that it is tried on; without it whole frames up to the last byte that it puts",
+        )],
+        text: &[
+            Say("A load list is a row of commands that put bytes into a memory; what they do not put stays. Each is a byte with what stands behind it, numbers highest byte first:"),
+            Table(&crate::load::SUMMARY),
+            Say("What is put goes to the place, which is 0 at the start and moves on behind it; a later put wins. The commands that put are the pieces, of which there may be 4,096. The library takes a list whole or refuses it, and then the memory is as it was: `desk help stops` has the numbers, 17 to 19."),
+            Say("A line is the offset in the list, from 0, and the bytes, in hexadecimal as before the bar of a listing, and behind the bar what the command does, bytes behind a colon in hexadecimal too. Then come what all pieces put, the addresses, and what the library says to the list; the exit status is that of a refusal where it is refused."),
+            Say("FILE is taken as a list whatever it is called, but for commented hexadecimal (.hex), whose bytes are the list. The other verbs take a FILE that ends in .load as a list and go on with the memory that it loads; `desk asm SOURCE -o FILE.load` makes one."),
         ],
     },
     Verb {

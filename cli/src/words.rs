@@ -15,6 +15,13 @@ const ALARMS: &[(u32, &str, &str)] = &[
     (15, "DIV by zero", "DIV by zero"),
 ];
 
+/// What a number says as the refusal of a load list.
+const LIST_REFUSALS: &[(u32, &str)] = &[
+    (17, "an unknown command, a list cut short, or bytes after its end"),
+    (18, "more than 4,096 pieces"),
+    (19, "a put outside memory"),
+];
+
 /// A cause of a kernel entry: `alarm 9, an absent page`.
 pub fn cause(number: u32) -> String {
     match number {
@@ -41,6 +48,17 @@ pub fn alarm(number: u32, kernel: bool) -> String {
         Some((_, words, _)) => words.to_string(),
         None => format!("number {number}, which this version has no words for"),
     }
+}
+
+/// The refusal of a load list.
+pub fn list_refusal(number: u32) -> &'static str {
+    let row = LIST_REFUSALS.iter().find(|(known, _)| *known == number);
+    row.map_or("a number that this version has no words for", |(_, words)| words)
+}
+
+/// What refusal 1 is about.
+pub fn memory_length(length: usize) -> String {
+    format!("it has {length} bytes; allowed are multiples of 512, up to 16777216")
 }
 
 /// A stop.
@@ -162,9 +180,14 @@ pub fn wrapped(words: &str, width: usize, first: usize, others: usize) -> Vec<St
 
 /// `1 step`, `39 steps`.
 pub fn steps(number: u64) -> String {
+    counted(number, "step", "steps")
+}
+
+/// A number of things: `1 byte`, `1,024 bytes`.
+pub fn counted(number: u64, one: &str, many: &str) -> String {
     match number {
-        1 => "1 step".to_string(),
-        _ => format!("{} steps", count(number)),
+        1 => format!("1 {one}"),
+        _ => format!("{} {many}", count(number)),
     }
 }
 
@@ -191,7 +214,7 @@ mod tests {
     }
 
     #[test]
-    fn every_cause_and_stop_has_words() {
+    fn every_cause_stop_and_refusal_has_words() {
         for number in (8..=15).chain(17..=31).chain([1]) {
             assert!(!cause_with(number, 3).contains("no words"), "{number}");
         }
@@ -199,5 +222,9 @@ mod tests {
             assert!(!stop(number).contains("no words"), "{number}");
         }
         assert!(cause(7).contains("no words"));
+        for number in 17..=19 {
+            assert!(!list_refusal(number).contains("no words"), "{number}");
+        }
+        assert!(list_refusal(20).contains("no words"));
     }
 }

@@ -1,9 +1,10 @@
-//! What docs/MACHINE.md shows of sources and listings is what the assembler and the listing give.
+//! What docs/MACHINE.md shows of sources, listings and load lists is what the assembler, the listing and `desk load` give.
 
 mod common;
 
 use common::{assembled, image, repository, source};
 use desk::list::listing;
+use desk::{hex, load};
 
 fn manual() -> String {
     std::fs::read_to_string(repository().join("docs/MACHINE.md")).expect("the manual")
@@ -64,4 +65,21 @@ fn the_program_taken_apart_has_these_bytes() {
             (0..digits.len() / 2).map(|i| u8::from_str_radix(&digits[2 * i..2 * i + 2], 16).expect("a byte")).collect();
         assert_eq!(memory[at..at + bytes.len()], bytes, "{line}");
     }
+}
+
+/// The bytes before the bars are the list; it is printed so, and loads what the text says.
+#[test]
+fn the_load_list_is_printed_so() {
+    let manual = manual();
+    let block = block_behind(&manual, "### A list taken apart");
+    let digits: String = block.iter().map(|line| line.split(" | ").next().unwrap_or("")[4..].to_string()).collect();
+    let list = hex::bytes("the manual", digits.as_bytes()).expect("the list");
+    let written: Vec<String> = list.iter().map(|byte| format!("{byte:02X}")).collect();
+    assert!(manual.contains(&format!("Its {} bytes are `{}`", list.len(), written.join(" "))));
+    let mut out = Vec::new();
+    assert_eq!(load::show(&mut out, "the manual", &list, None).expect("memory can be written"), 0);
+    let shown = String::from_utf8(out).expect("UTF-8");
+    assert!(shown.contains(&format!("\n\n{}\n\n3 pieces put 8 bytes at 7 addresses:", block.join("\n"))), "{shown}");
+    assert_eq!(load::memory(&list, None).expect("a memory")[0x200..0x207], *b"AbCD...");
+    assert_eq!(load::memory(&list, Some(512)).expect_err("a refusal").refusal.number(), 19);
 }

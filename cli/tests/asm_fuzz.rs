@@ -7,6 +7,7 @@ use desk::asm::assemble;
 use desk::hex;
 use desk::image::of_bytes;
 use desk::list::listing;
+use desk::load;
 
 /// Text that sources are made of, and text that they are not.
 const PIECES: &[&str] = &[
@@ -87,6 +88,9 @@ fn answers(text: &str) {
             if assembled.image.memory.len() < 65_536 {
                 let back = common::assembled("listing", &listing(&assembled.image, "listing"));
                 assert!(back.memory == assembled.image.memory, "{text}");
+                let packed = assembled.load_list();
+                let loaded = load::memory(&packed.list, None).map_err(|refused| refused.words());
+                assert!(!packed.is_allowed() || loaded.as_ref() == Ok(&assembled.image.memory), "{text}");
             }
         }
         Err(complaints) => {

@@ -15,6 +15,7 @@ mod layout;
 mod lexer;
 mod macros;
 mod parser;
+mod parts;
 pub mod reference;
 mod result;
 mod sizes;

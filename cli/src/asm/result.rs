@@ -5,16 +5,19 @@ use super::fields;
 use super::layout::{Layout, Position};
 use super::sizes;
 use super::syntax::{CauseKind, Datum, Entry, Kind, Statement};
-use super::{blocks, columns};
+use super::{blocks, columns, parts};
 use crate::image::{self, Complaint, Image, Program, SourceLine};
 use crate::names::Names;
 use crate::notation::hexadecimal;
 use crate::table::Size;
 use crate::view;
+use std::ops::Range;
 
 pub struct Assembled {
     /// From address 0 up to the last byte that the source gives.
     pub bytes: Vec<u8>,
+    /// The real addresses of those that the source writes.
+    pub parts: Vec<Range<u32>>,
     pub image: Image,
     /// Warnings of pages whose frame is past the memory as the source has it; a desk may be given a longer one.
     pub past_memory: Vec<Complaint>,
@@ -74,7 +77,7 @@ pub fn assembled(
     image.programs = programs(statements, layout, &image.memory);
     image.warnings = column_warnings(source, statements, layout, &image.memory, errors);
     let past_memory = frame_warnings(statements, layout, &image.memory, errors);
-    Assembled { bytes, image, past_memory }
+    Assembled { bytes, parts: parts::parts(&layout.positions), image, past_memory }
 }
 
 /// What may be wrong with a source that is right: where the columns of a listing disagree with it.

@@ -24,8 +24,18 @@ pub fn example(name: &str) -> String {
 
 /// A call of `desk` with nothing on its standard input.
 pub fn desk(arguments: &[&str]) -> Output {
-    let desk = env!("CARGO_BIN_EXE_desk");
-    Command::new(desk).args(arguments).stdin(Stdio::null()).output().expect("desk runs")
+    command(arguments).output().expect("desk runs")
+}
+
+/// The same from the repository's folder, for outputs that have the names of files.
+pub fn desk_at_root(arguments: &[&str]) -> Output {
+    command(arguments).current_dir(here().join("..")).output().expect("desk runs")
+}
+
+fn command(arguments: &[&str]) -> Command {
+    let mut command = Command::new(env!("CARGO_BIN_EXE_desk"));
+    command.args(arguments).stdin(Stdio::null());
+    command
 }
 
 pub fn text(bytes: &[u8]) -> String {
