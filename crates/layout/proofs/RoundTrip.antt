@@ -17,6 +17,7 @@ use Rattle.machine.specs.declared.Desk.{Desk}
 use Rattle.machine.specs.Words.{pick, byteAt, bytesOf, bytesOfWords, wordAt, wordsAt}
 use Rattle.machine.proofs.Bytes.{bytes-length, bytes-joined, word-joined}
 use Rattle.machine.proofs.Blocks.{words-length}
+use Rattle.words.proofs.Bytes.{four-bytes-back}
 use Rattle.layout.specs.Layout.{stateBytes, runs, markNumber, markOf, otherWords, wordsOf, packed, unpacked}
 
 -- ---- The mark
@@ -36,17 +37,6 @@ word-mark (Stopped n) h = rw (ne-eqb n runs (λ e. h (ap Stopped e)))
 
 -- ---- Bytes, their words, and the bytes again
 
-four : (x y z w : ℕ) → x < 256 → y < 256 → z < 256 → w < 256
-    → bytesOf 4 (x * 0x100_0000 + y * 0x1_0000 + z * 0x100 + w) ≡ x ∷ y ∷ z ∷ w ∷ []
-unfolding bytesOf
-four x y z w hx hy hz hw =
-    let v : ℕ = x * 0x100_0000 + y * 0x1_0000 + z * 0x100 + w in
-    let e : v / 0x100_0000 % 256 ≡ x = omega arith in
-    let f : v / 0x1_0000 % 256 ≡ y = omega arith in
-    let g : v / 0x100 % 256 ≡ z = omega arith in
-    let k : v / 1 % 256 ≡ w = omega arith in
-    cc
-
 words-unpacked : (b : List ℕ) → wordsOf (unpacked b) ≡ wordsAt 22 b 0
 unfolding wordsOf unpacked wordsAt
 words-unpacked b = rw (mark-word (wordAt b 84))
@@ -55,7 +45,7 @@ module _ (b : List ℕ) (small : (i : ℕ) → byteAt b i < 256) where
   word-bytes : (a : ℕ) → a + 4 ≤ length b → bytesOf 4 (wordAt b a) ≡ take 4 (drop a b)
   unfolding wordAt
   word-bytes a h =
-      four _ _ _ _ (small a) (small (a + 1)) (small (a + 2)) (small (a + 3))
+      four-bytes-back _ _ _ _ (small a) (small (a + 1)) (small (a + 2)) (small (a + 3))
       ∙ rw (
         next a (a + 1) (omega arith),
         next (a + 1) (a + 2) (omega arith),

@@ -1,5 +1,7 @@
 -- what stands at a place of a list, and what is read from there on
 pub mod Reading
+-- how a list is written
+pub mod Format
 -- a list judged command by command
 pub mod Judging
 -- what an accepted list is

@@ -2,7 +2,7 @@
 use Prim.Native.Nat.{ℕ, _<_}
 use mathlib.Core.Path.{_≡_, refl, sym, _∙_}
 use mathlib.Core.Bool.{true}
-use mathlib.Core.List.{List, [], _∷_}
+use mathlib.Core.List.{[], _∷_}
 use mathlib.Core.Option.{Option, none, some}
 use native.Mathlib.Decide.{ℕ-discrete}
 use borrow.Author.Tests.{eq-eqb, ne-eqb, ltb-true}
@@ -12,7 +12,6 @@ use lib.Seq.{getD-set-same, getD-set-other}
 use Rattle.machine.specs.Words.{pick, Memory, byteAt}
 use Rattle.machine.specs.Map.{RealWrites, commit}
 use Rattle.machine.proofs.Writes.{commit-length}
-use Rattle.lists.specs.declared.LoadRefusal.{LoadRefusal}
 use Rattle.lists.specs.declared.LoadAnswer.{LoadAnswer}
 use Rattle.lists.specs.declared.LoadAnswer.the-variants.{Accepted, Refused}
 use Rattle.lists.specs.Lists.{putsOf, laterOr, lastPut}

@@ -1,6 +1,6 @@
 -- The calls for C and Rust. The state's bytes are those of crate `layout`.
 
--- the four calls on numbers and bytes, and the version
+-- the calls on numbers and bytes, and the version
 pub mod Exports
 -- a run on bytes is as many steps on bytes
 pub mod Runs

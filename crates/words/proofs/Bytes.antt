@@ -1,5 +1,5 @@
 -- The bytes of each size.
-use Prim.Native.Nat.{ℕ, suc, _+_, _/_, _%_, _^_}
+use Prim.Native.Nat.{ℕ, suc, _+_, _*_, _/_, _%_, _^_, _<_}
 use mathlib.Core.Path.{_≡_}
 use mathlib.Core.List.{[], _∷_}
 use native.Mathlib.Numerals.{add-one}
@@ -38,3 +38,24 @@ module _ (m : Memory) (a v : ℕ) where
       let third : a + 2 ≡ suc (suc a) = omega arith in
       let fourth : a + 3 ≡ suc (suc (suc a)) = omega arith in
       rw (four-bytes, second, third, fourth)
+
+-- ---- Bytes that make up a number are its bytes
+
+pub two-bytes-back : (x y : ℕ) → x < 256 → y < 256 → bytesOf 2 (x * 0x100 + y) ≡ x ∷ y ∷ []
+unfolding bytesOf
+two-bytes-back x y hx hy =
+    let v : ℕ = x * 0x100 + y in
+    let e : v / 0x100 % 256 ≡ x = omega arith in
+    let f : v / 1 % 256 ≡ y = omega arith in
+    cc
+
+pub four-bytes-back : (x y z w : ℕ) → x < 256 → y < 256 → z < 256 → w < 256
+    → bytesOf 4 (x * 0x100_0000 + y * 0x1_0000 + z * 0x100 + w) ≡ x ∷ y ∷ z ∷ w ∷ []
+unfolding bytesOf
+four-bytes-back x y z w hx hy hz hw =
+    let v : ℕ = x * 0x100_0000 + y * 0x1_0000 + z * 0x100 + w in
+    let e : v / 0x100_0000 % 256 ≡ x = omega arith in
+    let f : v / 0x1_0000 % 256 ≡ y = omega arith in
+    let g : v / 0x100 % 256 ≡ z = omega arith in
+    let k : v / 1 % 256 ≡ w = omega arith in
+    cc
