@@ -19,9 +19,9 @@ use Rattle.lists.specs.declared.Command.{Command}
 use Rattle.lists.specs.declared.Command.the-variants.{Move, Byte, Four, Copies}
 use Rattle.lists.specs.declared.Next.{Next}
 use Rattle.lists.specs.declared.Next.the-variants.{End, More, Unreadable}
-use Rattle.lists.specs.Lists.{widthOf, widthIn, nextAt, Reading, malformed, commands, followed, readFrom}
-use Rattle.lists.specs.Lists.{readingOf}
-use Rattle.lists.specs.Format.{bytesIn, listOf, Written, AllWritten, AllBytes, Format}
+use Rattle.lists.specs.Lists.{widthOf, widthIn, nextAt, Reading, malformed, commands, followed, readingFrom}
+use Rattle.lists.specs.Lists.{bytesOfCommand, listOf, readingOf}
+use Rattle.lists.specs.Format.{HasRoom, AllHaveRoom, AllBytes, Format}
 use Rattle.lists.proofs.Reading.{whole, at-00, at-01, at-02, at-03, at-04, at-unknown, width-positive}
 
 -- ---- What is read was written
@@ -30,14 +30,15 @@ module _ (list : List ℕ) (small : AllBytes list) where
   next : (a b : ℕ) → b ≡ a + 1 → a < length list → drop a list ≡ byteAt list a ∷ drop b list
   next a b e h = rw (e, add-one, drop-cons list a 0 h)
 
-  -- the bytes of a command, and what stands behind them
+  -- the bytes of a command, what stands behind them, and that its numbers have room
   Stands : ℕ → Command → Type 0
-  Stands at c = drop at list ≡ bytesIn c ++ drop (at + widthOf c) list
+  Stands at c = (drop at list ≡ bytesOfCommand c ++ drop (at + widthOf c) list) × HasRoom c
 
   module _ (at : ℕ) where
     byte-stands : byteAt list at ≡ 0x02 → at + 2 ≤ length list → Stands at (Byte (byteAt list (at + 1)))
     unfolding Stands
-    byte-stands e h = rw (next at (at + 1) refl (omega arith), next (at + 1) (at + 2) (omega arith) (omega arith), e)
+    byte-stands e h =
+        (rw (next at (at + 1) refl (omega arith), next (at + 1) (at + 2) (omega arith) (omega arith), e), tt)
 
     five : at + 5 ≤ length list
         → drop at list
@@ -55,36 +56,39 @@ module _ (list : List ℕ) (small : AllBytes list) where
     four-stands : byteAt list at ≡ 0x03 → at + 5 ≤ length list
         → Stands at (Four (byteAt list (at + 1)) (byteAt list (at + 2)) (byteAt list (at + 3)) (byteAt list (at + 4)))
     unfolding Stands
-    four-stands e h = five h ∙ rw e
+    four-stands e h = (five h ∙ rw e, tt)
 
     move-stands : byteAt list at ≡ 0x01 → at + 5 ≤ length list → Stands at (Move (record { 0 = wordAt list (at + 1) }))
     unfolding Stands wordAt
     move-stands e h =
         let f : at + 1 + 1 ≡ at + 2 = omega arith in
         let g : at + 1 + 2 ≡ at + 3 = omega arith in
-        let k : at + 1 + 3 ≡ at + 4 = omega arith in
-        five h
-        ∙ rw (
-          e,
-          f,
-          g,
-          k,
-          four-bytes-back (byteAt list (at + 1)) (byteAt list (at + 2)) (byteAt list (at + 3)) (byteAt list (at + 4))
-              (small (at + 1)) (small (at + 2)) (small (at + 3)) (small (at + 4)),
+        let k : at + 1 + 3 ≡ at + 4 = omega arith in (
+          five h ∙ rw (
+            e,
+            f,
+            g,
+            k,
+            four-bytes-back (byteAt list (at + 1)) (byteAt list (at + 2)) (byteAt list (at + 3)) (byteAt list (at + 4))
+                (small (at + 1)) (small (at + 2)) (small (at + 3)) (small (at + 4)),
+          ),
+          omega (arith, small (at + 1), small (at + 1 + 1), small (at + 1 + 2), small (at + 1 + 3)),
         )
 
     copies-stands : byteAt list at ≡ 0x04 → at + 4 ≤ length list
         → Stands at (Copies (byteAt list (at + 1) * 0x100 + byteAt list (at + 2)) (byteAt list (at + 3)))
     unfolding Stands
-    copies-stands e h =
-        rw (
-          next at (at + 1) refl (omega arith),
-          next (at + 1) (at + 2) (omega arith) (omega arith),
-          next (at + 2) (at + 3) (omega arith) (omega arith),
-          next (at + 3) (at + 4) (omega arith) (omega arith),
-          e,
-          two-bytes-back (byteAt list (at + 1)) (byteAt list (at + 2)) (small (at + 1)) (small (at + 2)),
-        )
+    copies-stands e h = (
+      rw (
+        next at (at + 1) refl (omega arith),
+        next (at + 1) (at + 2) (omega arith) (omega arith),
+        next (at + 2) (at + 3) (omega arith) (omega arith),
+        next (at + 3) (at + 4) (omega arith) (omega arith),
+        e,
+        two-bytes-back (byteAt list (at + 1)) (byteAt list (at + 2)) (small (at + 1)) (small (at + 2)),
+      ),
+      omega (arith, small (at + 1), small (at + 2)),
+    )
 
     -- what stands whole at its place
     of-whole : (width : ℕ) (y x : Next) → nextAt list at ≡ whole list at width y → nextAt list at ≡ x → x ≢ Unreadable
@@ -152,32 +156,38 @@ module _ (list : List ℕ) (small : AllBytes list) where
     end-stands : nextAt list at ≡ End → at + 1 ≡ length list → drop at list ≡ 0x00 ∷ []
     end-stands h l = rw (next at (at + 1) refl (omega arith), end-byte h, l, drop-length)
 
-  -- from any place on
-  rest-written : (n at : ℕ) (cs : List Command) → readFrom n list at ≡ commands cs → drop at list ≡ listOf cs
-  unfolding readFrom followed listOf Stands
+  -- from any offset on
+  RestWritten : ℕ → List Command → Type 0
+  RestWritten at cs = (drop at list ≡ listOf cs) × AllHaveRoom cs
+
+  rest-written : (n at : ℕ) (cs : List Command) → readingFrom n list at ≡ commands cs → RestWritten at cs
+  unfolding readingFrom followed listOf Stands RestWritten
   rest-written zero at cs h = absurd (let z : _≡_ {A = ℕ} 0 1 = cc in omega arith)
   rest-written (suc n) at cs h =
-      go (nextAt list at) refl (readFrom n list (at + widthIn (nextAt list at))) refl h
+      go (nextAt list at) refl (readingFrom n list (at + widthIn (nextAt list at))) refl h
       (λ ds. rest-written n (at + widthIn (nextAt list at)) ds)
     where
-      go : (x : Next) → nextAt list at ≡ x → (r : Reading) → readFrom n list (at + widthIn x) ≡ r
+      go : (x : Next) → nextAt list at ≡ x → (r : Reading) → readingFrom n list (at + widthIn x) ≡ r
           → followed x (eqb (at + 1) (length list)) r ≡ commands cs
-          → ((ds : List Command) → readFrom n list (at + widthIn x) ≡ commands ds → drop (at + widthIn x) list ≡ listOf ds)
-          → drop at list ≡ listOf cs
+          → ((ds : List Command) → readingFrom n list (at + widthIn x) ≡ commands ds → RestWritten (at + widthIn x) ds)
+          → RestWritten at cs
       go (More c) e malformed f h k = absurd (let z : _≡_ {A = ℕ} 0 1 = cc in omega arith)
       go (More c) e (commands ds) f h k =
           let same : c ∷ ds ≡ cs = cc in
-          rw (← same) (more-stands at c e ∙ rw (k ds f))
+          let first = more-stands at c e in
+          rw (← same) (first .0 ∙ rw ((k ds f) .0), (first .1, (k ds f) .1))
       go Unreadable e r f h k = absurd (let z : _≡_ {A = ℕ} 0 1 = cc in omega arith)
       go End e r f h k = ends (eqb (at + 1) (length list)) refl h
         where
-          ends : (b : Bool) → eqb (at + 1) (length list) ≡ b → followed End b r ≡ commands cs → drop at list ≡ listOf cs
-          ends true l q = let same : [] ≡ cs = cc in rw (← same) (end-stands at e (eqb-true (at + 1) (length list) l))
+          ends : (b : Bool) → eqb (at + 1) (length list) ≡ b → followed End b r ≡ commands cs → RestWritten at cs
+          ends true l q =
+              let same : [] ≡ cs = cc in
+              rw (← same) (end-stands at e (eqb-true (at + 1) (length list) l), tt)
           ends false l q = absurd (let z : _≡_ {A = ℕ} 0 1 = cc in omega arith)
 
 -- ---- What is written is read
 
-width-bytes : (c : Command) → length (bytesIn c) ≡ widthOf c
+width-bytes : (c : Command) → length (bytesOfCommand c) ≡ widthOf c
 unfolding bytesOf
 width-bytes (Move a) = refl
 width-bytes (Byte b) = refl
@@ -220,28 +230,28 @@ address-read x q h =
 count-read : (n : ℕ) → n < 0x1_0000 → n / 256 % 256 * 256 + n / 1 % 256 ≡ n
 count-read n h = omega arith
 
-command-read : (p : List ℕ) (c : Command) (q : List ℕ) → Written c → nextAt (p ++ (bytesIn c ++ q)) (length p) ≡ More c
+command-read : (p : List ℕ) (c : Command) (q : List ℕ) → HasRoom c → nextAt (p ++ (bytesOfCommand c ++ q)) (length p) ≡ More c
 unfolding bytesOf
 command-read p (Move a) q w =
-    let r = bytesIn (Move a) ++ q in
+    let r = bytesOfCommand (Move a) ++ q in
     at-01 _ _ (first-behind p r) ∙ whole-behind p r 5 _ (omega arith)
     ∙ rw (word-behind p r 1, address-read (a .0) q w)
 command-read p (Byte b) q w =
-    let r = bytesIn (Byte b) ++ q in
+    let r = bytesOfCommand (Byte b) ++ q in
     at-02 _ _ (first-behind p r) ∙ whole-behind p r 2 _ (omega arith) ∙ rw (byte-behind p r 1)
 command-read p (Four a b c d) q w =
-    let r = bytesIn (Four a b c d) ++ q in
+    let r = bytesOfCommand (Four a b c d) ++ q in
     at-03 _ _ (first-behind p r) ∙ whole-behind p r 5 _ (omega arith)
     ∙ rw (byte-behind p r 1, byte-behind p r 2, byte-behind p r 3, byte-behind p r 4)
 command-read p (Copies n b) q w =
-    let r = bytesIn (Copies n b) ++ q in
+    let r = bytesOfCommand (Copies n b) ++ q in
     at-04 _ _ (first-behind p r) ∙ whole-behind p r 4 _ (omega arith)
     ∙ rw (byte-behind p r 1, byte-behind p r 2, byte-behind p r 3, count-read n w)
 
--- from any place on
-rest-read : (p : List ℕ) (cs : List Command) (n : ℕ) → AllWritten cs → length cs < n
-    → readFrom n (p ++ listOf cs) (length p) ≡ commands cs
-unfolding readFrom followed listOf
+-- from any offset on
+rest-read : (p : List ℕ) (cs : List Command) (n : ℕ) → AllHaveRoom cs → length cs < n
+    → readingFrom n (p ++ listOf cs) (length p) ≡ commands cs
+unfolding readingFrom followed listOf
 rest-read p cs zero w h = absurd (omega arith)
 rest-read p [] (suc n) w h =
     let e : nextAt (p ++ 0x00 ∷ []) (length p) ≡ End =
@@ -251,8 +261,8 @@ rest-read p [] (suc n) w h =
     rw (e, eq-eqb _ _ l)
 rest-read p (c ∷ cs) (suc n) w h =
     let e = command-read p c (listOf cs) (w .0) in
-    let k : readFrom n (p ++ (bytesIn c ++ listOf cs)) (length p + widthOf c) ≡ commands cs =
-    rw (← width-bytes c, ← length-append, ← append-assoc) (rest-read (p ++ bytesIn c) cs n (w .1) (omega arith))
+    let k : readingFrom n (p ++ (bytesOfCommand c ++ listOf cs)) (length p + widthOf c) ≡ commands cs =
+    rw (← width-bytes c, ← length-append, ← append-assoc) (rest-read (p ++ bytesOfCommand c) cs n (w .1) (omega arith))
     in
     rw (e, k)
 
@@ -262,8 +272,9 @@ fewer [] = omega arith
 fewer (c ∷ cs) = simp (length-append, width-bytes) (omega (arith, fewer cs, width-positive c))
 
 pub format : Format
-unfolding readingOf
+unfolding readingOf RestWritten
 format = record {
   read = λ cs w. rest-read [] cs (length (listOf cs)) w (fewer cs);
   only = λ list small cs h. rest-written list small (length list) 0 cs h;
+  width = width-bytes;
 }

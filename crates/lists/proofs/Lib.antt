@@ -1,7 +1,9 @@
--- what stands at a place of a list, and what is read from there on
+-- what stands at an offset of a list, and what is read from there on
 pub mod Reading
 -- how a list is written
 pub mod Format
+-- puts into a memory
+pub mod Puts
 -- a list judged command by command
 pub mod Judging
 -- what an accepted list is

@@ -16,7 +16,7 @@ use Rattle.lists.specs.declared.Command.the-variants.{Move, Byte, Four, 
 use Rattle.lists.specs.declared.Next.{Next}
 use Rattle.lists.specs.declared.Next.the-variants.{End, More, Unreadable}
 use Rattle.lists.specs.Lists.{widthOf, widthIn, nextBy, nextAt, Reading, malformed, commands, before, followed}
-use Rattle.lists.specs.Lists.{readFrom, readingOf}
+use Rattle.lists.specs.Lists.{readingFrom, readingOf}
 
 -- ---- One command
 
@@ -143,25 +143,25 @@ module _ (list : List ℕ) (at : ℕ) where
 
 -- what is read from a place on
 abbrev pub restFrom : List ℕ → ℕ → Reading
-restFrom list at = readFrom (length list - at) list at
+restFrom list at = readingFrom (length list - at) list at
 
 module _ (list : List ℕ) where
   -- one command more to read changes nothing where there are enough
-  enough : (n at : ℕ) → length list ≤ at + n → readFrom (suc n) list at ≡ readFrom n list at
-  unfolding readFrom followed
+  enough : (n at : ℕ) → length list ≤ at + n → readingFrom (suc n) list at ≡ readingFrom n list at
+  unfolding readingFrom followed
   enough zero at h = rw (at-end list at (omega arith))
   enough (suc n) at h =
       ap (followed (nextAt list at) (eqb (at + 1) (length list)))
       (enough n (at + widthIn (nextAt list at)) (omega (arith, width-in-positive (nextAt list at))))
 
-  many : (d at : ℕ) → readFrom (d + (length list - at)) list at ≡ restFrom list at
+  many : (d at : ℕ) → readingFrom (d + (length list - at)) list at ≡ restFrom list at
   many zero at = rw zero-add
   many (suc d) at = rw suc-add (enough (d + (length list - at)) at (omega arith) ∙ many d at)
 
   -- a command, and the rest behind it
   pub rest-more : (at : ℕ) (c : Command) → nextAt list at ≡ More c
       → restFrom list at ≡ before c (restFrom list (at + widthOf c))
-  unfolding readFrom followed
+  unfolding readingFrom followed
   rest-more at c e =
       let w : 1 ≤ widthOf c = width-positive c in
       let i : at + widthOf c ≤ length list = next-inside list at c e in
@@ -169,24 +169,24 @@ module _ (list : List ℕ) where
       rw (f, e, many (widthOf c - 1) (at + widthOf c))
 
   pub rest-ends : (at : ℕ) → nextAt list at ≡ End → at + 1 ≡ length list → restFrom list at ≡ commands []
-  unfolding readFrom followed
+  unfolding readingFrom followed
   rest-ends at e h =
       let f : length list - at ≡ suc 0 = omega arith in
       rw (f, e, eq-eqb _ _ h)
 
   pub rest-goes-on : (at : ℕ) → nextAt list at ≡ End → (at + 1 ≡ length list → ⊥) → restFrom list at ≡ malformed
-  unfolding readFrom followed
+  unfolding readingFrom followed
   rest-goes-on at e h = go (length list - at)
     where
-      go : (n : ℕ) → readFrom n list at ≡ malformed
+      go : (n : ℕ) → readingFrom n list at ≡ malformed
       go zero = refl
       go (suc n) = rw (e, ne-eqb _ _ h)
 
   pub rest-unreadable : (at : ℕ) → nextAt list at ≡ Unreadable → restFrom list at ≡ malformed
-  unfolding readFrom followed
+  unfolding readingFrom followed
   rest-unreadable at e = go (length list - at)
     where
-      go : (n : ℕ) → readFrom n list at ≡ malformed
+      go : (n : ℕ) → readingFrom n list at ≡ malformed
       go zero = refl
       go (suc n) = rw e
 

@@ -8,7 +8,7 @@ use lib.Dec.{eqb}
 use Rattle.machine.specs.Words.{wordAt}
 use Rattle.machine.specs.Map.{realWritesFrom}
 use Rattle.lists.specs.declared.Command.the-variants.{Move, Byte, Four, Copies}
-use Rattle.lists.specs.Lists.{nextBy, nextAt, commands, followed, readFrom, readingOf}
+use Rattle.lists.specs.Lists.{nextBy, nextAt, commands, followed, readingFrom, readingOf}
 use Rattle.lists.specs.Lists.{putsFrom, putsOf, piecesIn, piecesOf, lastPut, wellFormed}
 use Rattle.lists.specs.Refusals.{allInside, listRefusal, loadAnswerNumber}
 
@@ -23,7 +23,7 @@ move a b c d = 0x01 ∷ a ∷ b ∷ c ∷ d ∷ []
 -- each command; numbers stand highest byte first
 pub each-command : readingOf (move 0x01 0x02 0x03 0x04 ++ 0x02 ∷ 0xAA ∷ 0x03 ∷ 5 ∷ 6 ∷ 7 ∷ 8 ∷ 0x04 ∷ 0x01 ∷ 0x02 ∷ 0xBB ∷ end)
     ≡ commands (Move (record { 0 = 0x0102_0304 }) ∷ Byte 0xAA ∷ Four 5 6 7 8 ∷ Copies 0x0102 0xBB ∷ [])
-unfolding wordAt nextBy nextAt followed readFrom readingOf
+unfolding wordAt nextBy nextAt followed readingFrom readingOf
 each-command = refl
 
 -- the place starts at 0 and advances past what is put; a move leads elsewhere; a later put wins
@@ -31,12 +31,12 @@ abbrev patched : List ℕ
 patched = 0x02 ∷ 9 ∷ 0x03 ∷ 1 ∷ 2 ∷ 3 ∷ 4 ∷ 0x04 ∷ 0 ∷ 2 ∷ 7 ∷ move 0 0 0 1 ++ 0x02 ∷ 8 ∷ end
 
 pub puts-of-patched : putsOf patched ≡ realWritesFrom 0 (9 ∷ 1 ∷ 2 ∷ 3 ∷ 4 ∷ 7 ∷ 7 ∷ []) ++ realWritesFrom 1 (8 ∷ [])
-unfolding wordAt nextBy nextAt followed readFrom readingOf realWritesFrom putsFrom putsOf
+unfolding wordAt nextBy nextAt followed readingFrom readingOf realWritesFrom putsFrom putsOf
 puts-of-patched = refl
 
 pub last-of-patched : (lastPut 1 (putsOf patched) ≡ some 8) × (lastPut 2 (putsOf patched) ≡ some 2)
     × (lastPut 7 (putsOf patched) ≡ none)
-unfolding wordAt nextBy nextAt followed readFrom readingOf realWritesFrom putsFrom putsOf lastPut
+unfolding wordAt nextBy nextAt followed readingFrom readingOf realWritesFrom putsFrom putsOf lastPut
 last-of-patched = (refl, refl, refl)
 
 -- ---- Refusals
@@ -89,6 +89,6 @@ answered [] = true
 answered (r ∷ rs) = eqb (loadAnswerNumber (listRefusal 2 512 (r .0))) (r .1) && answered rs
 
 pub worked-refusals : answered rows ≡ true
-unfolding wordAt nextBy nextAt followed readFrom readingOf realWritesFrom putsFrom putsOf piecesIn piecesOf wellFormed
+unfolding wordAt nextBy nextAt followed readingFrom readingOf realWritesFrom putsFrom putsOf piecesIn piecesOf wellFormed
     allInside listRefusal rows answered
 worked-refusals = refl

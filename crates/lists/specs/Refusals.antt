@@ -15,7 +15,7 @@ use Rattle.lists.specs.declared.LoadAnswer.{LoadAnswer}
 use Rattle.lists.specs.declared.LoadAnswer.the-variants.{Accepted, Refused}
 use Rattle.lists.specs.Lists.{wellFormed, piecesOf, putsOf}
 
--- ---- Numbers
+-- ---- Numbers: "In demand 1 the refusals added here and later join 1 to 7."
 
 abbrev pub loadRefusalNumber : LoadRefusal → ℕ
 -- number 1 of document 01: the memory length is not allowed
@@ -34,10 +34,11 @@ loadAnswerNumber (Refused k) = loadRefusalNumber k
 
 -- ---- Tests
 
+-- "18, more than 4,096 pieces"
 abbrev pub deskPieces : ℕ
 deskPieces = 4096
 
--- every put has an address below n
+-- "19, a put outside memory": every put has an address below the memory's length n
 unfoldable pub allInside : ℕ → RealWrites → Bool
 allInside n [] = true
 allInside n (w ∷ ws) = ltb (w .0 .0) n && allInside n ws
@@ -46,7 +47,8 @@ allInside n (w ∷ ws) = ltb (w .0 .0) n && allInside n ws
 abbrev pub unless : Bool → LoadRefusal → LoadAnswer → LoadAnswer
 unless test k next = pick test next (Refused k)
 
--- a list of at most `limit` pieces, for a memory of n bytes
+-- "tried in that order": a list of at most `limit` pieces, for a memory of n bytes. A malformed list
+-- has no pieces and no puts, so that 17 would come first in any order; 18 comes before 19
 unfoldable pub listRefusal : ℕ → ℕ → List ℕ → LoadAnswer
 listRefusal limit n list =
     unless (wellFormed list) Malformed

@@ -1,10 +1,10 @@
 // Load lists: their commands one by one, and what is refused of a whole list.
 ghost use mathlib.Core.Path.{_≡_};
-ghost use Prim.Native.Nat.{_≤_, _<_};
+ghost use Prim.Native.Nat.{_+_, _≤_, _<_};
 ghost use lib.ListN.{length};
-ghost use Rattle.lists.specs.Lists.{nextAt, widthOf};
-ghost use Rattle.lists.specs.Refusals.{listRefusal, loadAnswerNumber, loadRefusalNumber};
-ghost use Rattle.lists.specs.Walks.{Started, pastCommand, pastPiece, verdictOf};
+ghost use Rattle.lists.specs.Lists.{nextAt, pieceCount, placeAfter, putBytes, widthOf};
+ghost use Rattle.lists.specs.Refusals.{allInside, listRefusal, loadAnswerNumber, loadRefusalNumber};
+ghost use Rattle.machine.specs.Map.{realWritesFrom};
 use machine::RealAddress;
 
 // A list that is loaded at the desk has at most so many pieces.
@@ -19,7 +19,7 @@ pub enum Command {
     Copies(u32, u8),
 }
 
-// What stands at a place of a list: 00h, its end; a command; or neither, since the byte is unknown
+// What stands at an offset of a list: 00h, its end; a command; or neither, since the byte is unknown
 // or the list is cut short.
 pub enum Next {
     End,
@@ -81,9 +81,59 @@ impl Command {
             Command::Copies(_, _) => 4,
         }
     }
+
+    // 1 for a piece, 0 for a move.
+    pub fn pieces(self) -> usize
+        ensures { λ r. ⌜ r ≡ pieceCount self ⌝ }
+    {
+        match self {
+            Command::Move(_) => 0,
+            Command::Byte(_) => 1,
+            Command::Four(_, _, _, _) => 1,
+            Command::Copies(_, _) => 1,
+        }
+    }
+
+    // How many bytes it puts.
+    pub fn count(self) -> u32
+        ensures { λ r. ⌜ r ≡ length (putBytes self) ⌝ }
+    {
+        match self {
+            Command::Move(_) => 0,
+            Command::Byte(_) => 1,
+            Command::Four(_, _, _, _) => 4,
+            Command::Copies(n, _) => n,
+        }
+    }
+
+    // Whether what it puts from a place on lies inside a memory of n bytes: judged by place and
+    // count, not byte by byte.
+    pub fn fits(self, place: RealAddress, n: usize) -> bool
+        ensures { λ r. ⌜ r ≡ allInside n (realWritesFrom (place .0) (putBytes self)) ⌝ }
+    {
+        let count = self.count();
+        if count == 0 {
+            return true;
+        }
+        place.0 as usize + count as usize <= n
+    }
+
+    // The place after it.
+    pub fn place_after(self, place: RealAddress) -> RealAddress
+        requires { ⌜ place .0 + length (putBytes self) < 0x1_0000_0000 ⌝ }
+        ensures value { λ r. ⌜ r ≡ record { 0 = placeAfter (place .0) self } ⌝ }
+        ensures small { λ r. ⌜ r .0 < 0x1_0000_0000 ⌝ }
+    {
+        match self {
+            Command::Move(a) => a,
+            Command::Byte(_) => RealAddress(place.0 + 1),
+            Command::Four(_, _, _, _) => RealAddress(place.0 + 4),
+            Command::Copies(n, _) => RealAddress(place.0 + n),
+        }
+    }
 }
 
-// What stands at a place of a list. The bytes that are left are asked before the byte: with a match
+// What stands at an offset of a list. The bytes that are left are asked before the byte: with a match
 // over the byte the compiler makes a table of jumps, and the loops over a list are half as fast.
 pub fn next_at(list: &[u8], at: usize) -> Next
     requires { ⌜ at ≤ length (now list) ⌝ }
@@ -115,100 +165,40 @@ pub fn next_at(list: &[u8], at: usize) -> Next
 
 // ---- A whole list
 
-// What the judgement of a list keeps: the place, the pieces so far, and whether every put so far
-// lies inside the memory.
-struct Walk {
-    place: usize,
-    pieces: usize,
-    inside: bool,
-}
-
-impl Walk {
-    // After a piece of so many bytes, for a memory of n bytes. Where it puts outside, the place
-    // matters no more.
-    fn past_piece(self, bytes: usize, n: usize) -> Walk
-        requires { ⌜ Started n self × (bytes < 0x1_0000_0000) ⌝ }
-        ensures value { λ r. ⌜ r ≡ pastPiece n bytes self ⌝ }
-        ensures small { λ r. ⌜ r .place < 0x1_0000_0000 ⌝ }
-    {
-        let next = self.place + bytes;
-        if bytes == 0 {
-            return Walk {
-                place: self.place,
-                pieces: self.pieces + 1,
-                inside: self.inside,
-            };
-        }
-        if next <= n {
-            return Walk {
-                place: next,
-                pieces: self.pieces + 1,
-                inside: self.inside,
-            };
-        }
-        Walk {
-            place: self.place,
-            pieces: self.pieces + 1,
-            inside: false,
-        }
-    }
-
-    // After a command.
-    fn past(self, c: Command, n: usize) -> Walk
-        requires { ⌜ Started n self ⌝ }
-        ensures value { λ r. ⌜ r ≡ pastCommand n c self ⌝ }
-        ensures small { λ r. ⌜ r .place < 0x1_0000_0000 ⌝ }
-    {
-        match c {
-            Command::Move(a) => Walk {
-                place: a.0 as usize,
-                pieces: self.pieces,
-                inside: self.inside,
-            },
-            Command::Byte(_) => self.past_piece(1, n),
-            Command::Four(_, _, _, _) => self.past_piece(4, n),
-            Command::Copies(count, _) => self.past_piece(count as usize, n),
-        }
-    }
-
-    // 18 and 19, in this order.
-    fn verdict(self, limit: usize) -> LoadAnswer
-        ensures { λ r. ⌜ r ≡ verdictOf limit self ⌝ }
-    {
-        if limit < self.pieces {
-            return LoadAnswer::Refused(LoadRefusal::Pieces);
-        }
-        if self.inside {
-            return LoadAnswer::Accepted;
-        }
-        LoadAnswer::Refused(LoadRefusal::Outside)
-    }
-}
-
-// Whether a list of at most `limit` pieces may be loaded into a memory of n bytes. Its time is the
-// list's length: what is put is not looked at byte by byte.
+// Whether a list of at most `limit` pieces may be loaded into a memory of n bytes: 17 where it cannot
+// be read to its end, which is its last byte, then 18, then 19. Its time is the list's length. Where
+// a put is outside, the place matters no more.
 pub fn judge(list: &[u8], n: usize, limit: usize) -> LoadAnswer
     requires { ⌜ n < 0x1_0000_0000 ⌝ }
     ensures { λ r. ⌜ r ≡ listRefusal limit n (now (list .entry)) ⌝ }
 {
     let mut at: usize = 0;
-    let mut walk = Walk {
-        place: 0,
-        pieces: 0,
-        inside: true,
-    };
+    let mut pieces: usize = 0;
+    let mut place = RealAddress(0);
+    let mut inside = true;
     loop {
         let x = next_at(list, at);
         match x {
             Next::More(c) => {
-                walk = walk.past(c, n);
                 at += c.width();
+                pieces += c.pieces();
+                if c.fits(place, n) {
+                    place = c.place_after(place);
+                } else {
+                    inside = false;
+                }
             }
             Next::End => {
-                if list.len() - at == 1 {
-                    return walk.verdict(limit);
+                if list.len() - at != 1 {
+                    return LoadAnswer::Refused(LoadRefusal::Malformed);
                 }
-                return LoadAnswer::Refused(LoadRefusal::Malformed);
+                if limit < pieces {
+                    return LoadAnswer::Refused(LoadRefusal::Pieces);
+                }
+                if inside {
+                    return LoadAnswer::Accepted;
+                }
+                return LoadAnswer::Refused(LoadRefusal::Outside);
             }
             Next::Unreadable => {
                 return LoadAnswer::Refused(LoadRefusal::Malformed);

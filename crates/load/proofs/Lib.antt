@@ -4,3 +4,5 @@ pub mod Putting
 pub mod Outcomes
 -- what a load leaves
 pub mod Effects
+-- worked loads, computed
+pub mod Worked

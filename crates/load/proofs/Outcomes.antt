@@ -13,39 +13,38 @@ use Rattle.lists.specs.declared.LoadRefusal.{LoadRefusal}
 use Rattle.lists.specs.declared.LoadRefusal.the-variants.{Length}
 use Rattle.lists.specs.declared.LoadAnswer.the-variants.{Accepted, Refused}
 use Rattle.lists.specs.Lists.{putsOf}
-use Rattle.lists.specs.Refusals.{allInside, deskPieces, unless, listRefusal}
+use Rattle.lists.specs.Refusals.{allInside, unless, listRefusal}
 use Rattle.lists.proofs.Accepted.{passed}
 use Rattle.load.specs.Loading.{loaded, loadRefusal, loadedBy, loadOf}
-use Rattle.load.specs.Puts.{Sound}
+use Rattle.load.specs.Judged.{Sound}
 
-module _ (m : Memory) (list : List ℕ) where
-  pub refused-length : allowedLength (length m) ≡ false → loaded (Refused Length) m ≡ loadOf m list
+module _ (limit : ℕ) (m : Memory) (list : List ℕ) where
+  pub refused-length : allowedLength (length m) ≡ false → loaded (Refused Length) m ≡ loadOf limit m list
   unfolding loadOf loadRefusal loadedBy
   refused-length h = rw h
 
   module _ (allowed : allowedLength (length m) ≡ true) where
-    pub refused-list : {k : LoadRefusal} → listRefusal deskPieces (length m) list ≡ Refused k
-        → loaded (Refused k) m ≡ loadOf m list
+    pub refused-list : {k : LoadRefusal} → listRefusal limit (length m) list ≡ Refused k
+        → loaded (Refused k) m ≡ loadOf limit m list
     unfolding loadOf loadRefusal loadedBy
     refused-list h = rw (allowed, h)
 
-    module _ (h : listRefusal deskPieces (length m) list ≡ Accepted) where
-      pub list-loaded : loaded Accepted (commit (putsOf list) m) ≡ loadOf m list
+    module _ (h : listRefusal limit (length m) list ≡ Accepted) where
+      pub list-loaded : loaded Accepted (commit (putsOf list) m) ≡ loadOf limit m list
       unfolding loadOf loadRefusal loadedBy
       list-loaded = rw (allowed, h)
 
       pub sound : Sound m list
       sound =
-          let p = passed deskPieces (length m) list h in
+          let p = passed limit (length m) list h in
           record { memory = omega (arith, length-small (length m) allowed); whole = p .whole; inside = p .inside }
 
--- a list that is loaded puts inside the memory
-pub puts-inside : (m : Memory) (list : List ℕ) → loadRefusal deskPieces (length m) list ≡ Accepted
-    → allInside (length m) (putsOf list) ≡ true
-unfolding loadRefusal
-puts-inside m list h = go (allowedLength (length m)) h
-  where
-    go : (b : Bool) → unless b Length (listRefusal deskPieces (length m) list) ≡ Accepted
-        → allInside (length m) (putsOf list) ≡ true
-    go true e = (passed deskPieces (length m) list e) .inside
-    go false e = cc
+  -- a list that is loaded puts inside the memory
+  pub puts-inside : loadRefusal limit (length m) list ≡ Accepted → allInside (length m) (putsOf list) ≡ true
+  unfolding loadRefusal
+  puts-inside h = go (allowedLength (length m)) h
+    where
+      go : (b : Bool) → unless b Length (listRefusal limit (length m) list) ≡ Accepted
+          → allInside (length m) (putsOf list) ≡ true
+      go true e = (passed limit (length m) list e) .inside
+      go false e = cc

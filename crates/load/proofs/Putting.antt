@@ -2,14 +2,14 @@
 -- list gives.
 use Prim.Native.Nat.{ℕ, suc, _+_, _≤_, _<_}
 use mathlib.Core.Path.{_≡_, refl}
-use mathlib.Core.Bool.{Bool, true, false, _&&_}
-use mathlib.Core.List.{List, [], _∷_, _++_}
+use mathlib.Core.Bool.{Bool, true, false}
+use mathlib.Core.List.{List, [], _∷_}
 use native.Mathlib.Omega.{arith}
 use native.Mathlib.Decide.{ℕ-discrete, decLe, decLt}
 use lib.ListN.{length, length-replicate, set}
 use lib.Seq.{sets}
 use Rattle.machine.specs.Words.{Memory}
-use Rattle.machine.specs.Map.{RealWrites, realWritesFrom, commit}
+use Rattle.machine.specs.Map.{realWritesFrom, commit}
 use Rattle.machine.proofs.Writes.{commit-from}
 use Rattle.lists.specs.declared.Command.{Command}
 use Rattle.lists.specs.declared.Command.the-variants.{Copies}
@@ -17,17 +17,9 @@ use Rattle.lists.specs.declared.Next.the-variants.{End, More, Unreadable}
 use Rattle.lists.specs.Lists.{widthOf, nextAt, Reading, malformed, commands, before, commandsIn, wellFormedIn}
 use Rattle.lists.specs.Lists.{readingOf, wellFormed, putBytes, placeAfter, putsFrom, putsOf}
 use Rattle.lists.specs.Refusals.{allInside}
-use Rattle.load.specs.Puts.{Puttable}
+use Rattle.load.specs.Judged.{Puttable}
 use Rattle.lists.proofs.Reading.{restFrom, rest-more, rest-ends, rest-goes-on, rest-unreadable, rest-all}
-use Rattle.lists.proofs.Judging.{inside-append, row-outside}
-
-pub and-left : (a b : Bool) → (a && b) ≡ true → a ≡ true
-and-left true b h = refl
-and-left false b h = h
-
-pub and-right : (a b : Bool) → (a && b) ≡ true → b ≡ true
-and-right true b h = h
-and-right false b h = cc
+use Rattle.lists.proofs.Puts.{and-left, and-right, inside-append, row-outside, commit-append}
 
 -- some bytes in a row that are inside end inside
 row-ends-inside : (n a : ℕ) (bs : List ℕ) → 0 < length bs → allInside n (realWritesFrom a bs) ≡ true
@@ -42,11 +34,6 @@ row-ends-inside n a (b ∷ bs) l h = go (decLe (a + length (b ∷ bs)) n)
         let z : _≡_ {A = ℕ} 0 1 = cc in
         omega arith
 
-pub commit-append : (x y : RealWrites) (m : Memory) → commit (x ++ y) m ≡ commit y (commit x m)
-unfolding commit
-commit-append [] y m = refl
-commit-append (w ∷ ws) y m = commit-append ws y (set m (w .0 .0) (w .1))
-
 -- ---- One command
 
 -- a command that puts bytes has room for them
@@ -54,16 +41,18 @@ pub room : {m : Memory} {place : ℕ} {c d : Command} → Puttable m place c →
     → place + length (putBytes d) ≤ length m
 room p e = rw e at (p .inside)
 
-module _ {m : Memory} {place n b : ℕ} {c : Command} (p : Puttable m place c) (e : c ≡ Copies n b) where
-  pub copies-room : 0 < n → place + n ≤ length m
-  copies-room = rw length-replicate at (room p e)
+pub copies-room : {m : Memory} {place n b : ℕ} {c : Command} → Puttable m place c → c ≡ Copies n b → 0 < n
+    → place + n ≤ length m
+copies-room p e = rw length-replicate at (room p e)
 
-  pub copies-end : place + n < 0x1_0000_0000
-  copies-end = go (decLt 0 n)
-    where
-      go : Dec (0 < n) → place + n < 0x1_0000_0000
-      go (yes h) = omega (arith, copies-room h, p .memory)
-      go (no h) = omega (arith, p .place)
+-- and the place after it in an address
+pub end-small : {m : Memory} {place : ℕ} (c : Command) → Puttable m place c → length m < 0x1_0000_0000
+    → place < 0x1_0000_0000 → place + length (putBytes c) < 0x1_0000_0000
+end-small {place = place} c p l h = go (decLt 0 (length (putBytes c)))
+  where
+    go : Dec (0 < length (putBytes c)) → place + length (putBytes c) < 0x1_0000_0000
+    go (yes z) = omega (arith, p .inside z)
+    go (no z) = omega arith
 
 pub four-laid : (m : Memory) (place a b c d : ℕ)
     → set (set (set (set m place a) (place + 1) b) (place + 2) c) (place + 3) d ≡ sets m place (a ∷ b ∷ c ∷ d ∷ [])
@@ -106,8 +95,8 @@ module _ (list : List ℕ) where
 
   -- a command, and what is left behind it
   module _ (at : ℕ) (c : Command) (here : nextAt list at ≡ More c) where
-    pub more-inside : (n place : ℕ) → soundFrom n place (restFrom list at) ≡ true
-        → 0 < length (putBytes c) → place + length (putBytes c) ≤ n
+    more-inside : (n place : ℕ) → soundFrom n place (restFrom list at) ≡ true → 0 < length (putBytes c)
+        → place + length (putBytes c) ≤ n
     unfolding soundFrom putsFrom
     more-inside n place h l = go (restFrom list (at + widthOf c)) (rw (rest-more list at c here) at h)
       where
@@ -116,6 +105,10 @@ module _ (list : List ℕ) where
         go (commands cs) e =
             row-ends-inside n place (putBytes c) l
             (and-left (allInside n (realWritesFrom place (putBytes c))) _ (rw inside-append at e))
+
+    pub more-puttable : (n place : ℕ) (m : Memory) → length m ≡ n → soundFrom n place (restFrom list at) ≡ true
+        → Puttable m place c
+    more-puttable n place m l h = record { inside = rw l (more-inside n place h) }
 
     pub more-sound : (n place : ℕ) → soundFrom n place (restFrom list at) ≡ true
         → soundFrom n (placeAfter place c) (restFrom list (at + widthOf c)) ≡ true

@@ -5,5 +5,5 @@
 pub mod Loading
 -- what the request says of it beyond the answer
 pub mod Effects
--- what is known before anything is put
-pub mod Puts
+-- not the request: what is known before anything is put
+pub mod Judged

@@ -11,7 +11,7 @@ use Rattle.lists.specs.declared.LoadRefusal.the-variants.{Length}
 use Rattle.lists.specs.declared.LoadAnswer.{LoadAnswer}
 use Rattle.lists.specs.declared.LoadAnswer.the-variants.{Accepted, Refused}
 use Rattle.lists.specs.Lists.{putsOf}
-use Rattle.lists.specs.Refusals.{deskPieces, unless, listRefusal}
+use Rattle.lists.specs.Refusals.{unless, listRefusal}
 
 -- an answer with the memory that it leaves
 pub record Loaded : Type 0 where
@@ -21,7 +21,7 @@ pub record Loaded : Type 0 where
 abbrev pub loaded : LoadAnswer → Memory → Loaded
 loaded a m = record { answer = a; memory = m }
 
--- "tried in that order after 1"
+-- "tried in that order after 1": of at most `limit` pieces, for a memory of n bytes
 unfoldable pub loadRefusal : ℕ → ℕ → List ℕ → LoadAnswer
 loadRefusal limit n list = unless (passes1 n) Length (listRefusal limit n list)
 
@@ -30,5 +30,6 @@ unfoldable pub loadedBy : LoadAnswer → RealWrites → Memory → Loaded
 loadedBy Accepted puts m = loaded Accepted (commit puts m)
 loadedBy (Refused k) puts m = loaded (Refused k) m
 
-unfoldable pub loadOf : Memory → List ℕ → Loaded
-loadOf m list = loadedBy (loadRefusal deskPieces (length m) list) (putsOf list) m
+-- a list of at most `limit` pieces
+unfoldable pub loadOf : ℕ → Memory → List ℕ → Loaded
+loadOf limit m list = loadedBy (loadRefusal limit (length m) list) (putsOf list) m

@@ -3,52 +3,49 @@ ghost use mathlib.Core.Path.{_≡_};
 ghost use Prim.Native.Nat.{_+_, _≤_, _<_};
 ghost use lib.ListN.{length, replicate};
 ghost use lib.Seq.{sets};
-ghost use Rattle.lists.specs.Lists.{placeAfter, putBytes, putsOf};
+ghost use Rattle.lists.specs.Lists.{putBytes, putsOf};
+ghost use Rattle.lists.specs.Refusals.{deskPieces};
+ghost use Rattle.load.specs.Judged.{Puttable, Sound};
 ghost use Rattle.load.specs.Loading.{loadOf, loaded};
-ghost use Rattle.load.specs.Puts.{Puttable, Sound};
 ghost use Rattle.machine.specs.Map.{commit};
 use lists::Command;
 use lists::DESK_PIECES;
 use lists::LoadAnswer;
 use lists::LoadRefusal;
 use lists::Next;
+use machine::RealAddress;
 
-// So many copies of a byte to the places from one on; of none the place does not matter.
-fn fill(mem: &mut [u8], place: usize, count: usize, byte: u8)
-    requires { ⌜ (0 < count → place + count ≤ length (now mem)) ⌝ }
-    ensures { λ r. ⌜ now (mem .exit) ≡ sets (now (mem .entry)) place (replicate count byte) ⌝ }
+// So many copies of a byte from an index on; of none the index does not matter.
+fn fill(mem: &mut [u8], at: usize, count: usize, byte: u8)
+    requires { ⌜ (0 < count → at + count ≤ length (now mem)) ⌝ }
+    ensures { λ r. ⌜ now (mem .exit) ≡ sets (now (mem .entry)) at (replicate count byte) ⌝ }
 {
     let mut i: usize = 0;
     while i < count {
-        mem[place + i] = byte;
+        mem[at + i] = byte;
         i += 1;
     }
 }
 
-// What a command puts, to the places from one on. Answers the place after it.
-fn put(mem: &mut [u8], place: usize, c: Command) -> usize
-    requires { ⌜ Puttable (now mem) place c ⌝ }
-    ensures next { λ r. ⌜ r ≡ placeAfter place c ⌝ }
-    ensures put { λ r. ⌜ now (mem .exit) ≡ sets (now (mem .entry)) place (putBytes c) ⌝ }
-    ensures small { λ r. ⌜ r < 0x1_0000_0000 ⌝ }
+// What a command puts, from a place on.
+fn put(mem: &mut [u8], place: RealAddress, c: Command)
+    requires { ⌜ Puttable (now mem) (place .0) c ⌝ }
+    ensures { λ r. ⌜ now (mem .exit) ≡ sets (now (mem .entry)) (place .0) (putBytes c) ⌝ }
 {
+    let at = place.0 as usize;
     match c {
-        Command::Move(a) => a.0 as usize,
+        Command::Move(_) => {}
         Command::Byte(b) => {
-            mem[place] = b;
-            place + 1
+            mem[at] = b;
         }
         Command::Four(a, b, c, d) => {
-            mem[place] = a;
-            mem[place + 1] = b;
-            mem[place + 2] = c;
-            mem[place + 3] = d;
-            place + 4
+            mem[at] = a;
+            mem[at + 1] = b;
+            mem[at + 2] = c;
+            mem[at + 3] = d;
         }
         Command::Copies(count, b) => {
-            let n = count as usize;
-            fill(mem, place, n, b);
-            place + n
+            fill(mem, at, count as usize, b);
         }
     }
 }
@@ -59,12 +56,13 @@ fn put_all(mem: &mut [u8], list: &[u8])
     ensures { λ r. ⌜ now (mem .exit) ≡ commit (putsOf (now (list .entry))) (now (mem .entry)) ⌝ }
 {
     let mut at: usize = 0;
-    let mut place: usize = 0;
+    let mut place = RealAddress(0);
     loop {
         let x = lists::next_at(list, at);
         match x {
             Next::More(c) => {
-                place = put(mem, place, c);
+                put(mem, place, c);
+                place = c.place_after(place);
                 at += c.width();
             }
             Next::End => {
@@ -79,7 +77,7 @@ fn put_all(mem: &mut [u8], list: &[u8])
 
 // Loads a list into a memory, or refuses it and changes nothing.
 pub fn load(mem: &mut [u8], list: &[u8]) -> LoadAnswer
-    ensures { λ r. ⌜ loaded r (now (mem .exit)) ≡ loadOf (now (mem .entry)) (now (list .entry)) ⌝ }
+    ensures { λ r. ⌜ loaded r (now (mem .exit)) ≡ loadOf deskPieces (now (mem .entry)) (now (list .entry)) ⌝ }
 {
     let n = mem.len();
     if !checks::length_allowed(n) {

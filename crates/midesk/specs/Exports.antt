@@ -8,7 +8,7 @@ use Rattle.machine.specs.declared.Reply.{Reply}
 use Rattle.machine.specs.Words.{Memory}
 use Rattle.machine.specs.Calls.{answerNumber, freshOf, stepAnswerNumber, Stepped, stepOf, requestOf, Ran, runOf}
 use Rattle.layout.specs.Layout.{packed, unpacked}
-use Rattle.lists.specs.Refusals.{loadAnswerNumber}
+use Rattle.lists.specs.Refusals.{deskPieces, loadAnswerNumber}
 use Rattle.load.specs.Loading.{Loaded, loadOf}
 
 -- A call that leaves the memory alone: its answer is the number of its refusal, 0 where it was
@@ -87,7 +87,7 @@ unfoldable pub loadLeft : Loaded → LoadLeft
 loadLeft r = record { answer = loadAnswerNumber (r .answer); memory = r .memory }
 
 unfoldable pub loadCall : Memory → List ℕ → LoadLeft
-loadCall m list = loadLeft (loadOf m list)
+loadCall m list = loadLeft (loadOf deskPieces m list)
 
 -- The version, 1.1.0, as one number
 

@@ -12,12 +12,12 @@ use Rattle.load.proofs.fill.Statement.{statement}
 use Rattle.load.proofs.fill.Tie as tie
 
 abbrev Inv-loop : tie.InvT-loop
-Inv-loop mem₀ place count byte i₀ mem i =
+Inv-loop mem₀ at count byte i₀ mem i =
     (i ≤ count) × (length mem ≡ length mem₀)
-    × (sets mem (place + i) (replicate (count - i) byte) ≡ sets mem₀ place (replicate count byte))
+    × (sets mem (at + i) (replicate (count - i) byte) ≡ sets mem₀ at (replicate count byte))
 
 abbrev μ-loop : tie.MeasureT-loop
-μ-loop mem₀ place count byte i₀ mem i = count - i
+μ-loop mem₀ at count byte i₀ mem i = count - i
 
 next-copy : (i n b : ℕ) (m : Memory) (a : ℕ) → i < n
     → sets m (a + i) (replicate (n - i) b) ≡ sets (set m (a + i) b) (a + (i + 1)) (replicate (n - (i + 1)) b)
@@ -38,7 +38,7 @@ loop-again c =
     let a = c .before .before .args in (
       omega arith,
       simp length-set (turn .inv .1),
-      sym (next-copy (turn .i) (a .count) (a .byte) (turn .mem) (a .place) (c .loop-test .taken)) ∙ turn .inv .2,
+      sym (next-copy (turn .i) (a .count) (a .byte) (turn .mem) (a .at) (c .loop-test .taken)) ∙ turn .inv .2,
     )
 
 returns : tie.Need-returns Inv-loop μ-loop

@@ -1,4 +1,4 @@
--- What the judgement of a list has shown before anything is put.
+-- Not the request: what the judgement of a list has shown before anything is put.
 use Prim.Native.Nat.{ℕ, _+_, _≤_, _<_}
 use mathlib.Core.Path.{_≡_}
 use mathlib.Core.Bool.{true}
@@ -9,13 +9,11 @@ use Rattle.lists.specs.declared.Command.{Command}
 use Rattle.lists.specs.Lists.{putBytes, wellFormed, putsOf}
 use Rattle.lists.specs.Refusals.{allInside}
 
--- what a command puts from a place on lies inside the memory
-pub record Puttable (m : Memory) (at : ℕ) (c : Command) : Type 0 where
-  pub memory : length m < 0x1_0000_0000
-  pub place : at < 0x1_0000_0000
-  pub inside : 0 < length (putBytes c) → at + length (putBytes c) ≤ length m
+-- what a command puts from a place on, if anything, lies inside the memory
+pub record Puttable (m : Memory) (place : ℕ) (c : Command) : Type 0 where
+  pub inside : 0 < length (putBytes c) → place + length (putBytes c) ≤ length m
 
--- and what a list puts
+-- what a list puts lies inside the memory
 pub record Sound (m : Memory) (list : List ℕ) : Type 0 where
   pub memory : length m < 0x1_0000_0000
   pub whole : wellFormed list ≡ true
