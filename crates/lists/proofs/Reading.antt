@@ -1,4 +1,4 @@
--- A list read from a place on: what stands there, and what is read behind it.
+-- A list read from an offset on: what stands there, and what is read behind it.
 use Prim.Native.Nat.{ℕ, zero, suc, _+_, _-_, _*_, _≤_, _<_}
 use mathlib.Core.Path.{_≡_, refl, _∙_, ap}
 use mathlib.Core.Logic.{_≢_}
@@ -31,7 +31,7 @@ width-in-positive End = omega arith
 width-in-positive (More c) = width-positive c
 width-in-positive Unreadable = omega arith
 
--- enough bytes are left from a place on
+-- enough bytes are left from an offset on
 pub starts-inside : (n at width : ℕ) (b : Bool) → (leb width (n - at) && b) ≡ true → at ≤ n → at + width ≤ n
 starts-inside n at width b h l = go (leb width (n - at)) refl h
   where
@@ -141,7 +141,7 @@ module _ (list : List ℕ) (at : ℕ) where
 
 -- ---- The rest of a list
 
--- what is read from a place on
+-- what is read from an offset on
 abbrev pub restFrom : List ℕ → ℕ → Reading
 restFrom list at = readingFrom (length list - at) list at
 

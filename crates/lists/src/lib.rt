@@ -133,8 +133,8 @@ impl Command {
     }
 }
 
-// What stands at an offset of a list. The bytes that are left are asked before the byte: with a match
-// over the byte the compiler makes a table of jumps, and the loops over a list are half as fast.
+// What stands at an offset of a list. One test after another, the bytes that are left asked first: of
+// a match over the byte the compiler makes a table of jumps, which was slower.
 pub fn next_at(list: &[u8], at: usize) -> Next
     requires { ⌜ at ≤ length (now list) ⌝ }
     ensures { λ r. ⌜ r ≡ nextAt (now (list .entry)) at ⌝ }
