@@ -179,7 +179,7 @@ pub const VERBS: &[Verb] = &[
             Table(&crate::table::SUMMARY),
             Say("Data, places, blocks and maps."),
             Table(crate::asm::reference::DIRECTIVES),
-            Say("A load list puts the bytes that the source gives, RES and ALI among them, part by part; zeros that it does not give are not put, but for the last byte of a memory that MEMORY makes longer. No list that puts each byte once has fewer pieces; where they would be more than 4,096, none is written. SOURCE may be commented hexadecimal too (.hex), of which the bytes are written as they are: for a FILE.load they must be a list."),
+            Say("A load list puts the bytes that the source gives, RES and ALI among them, part by part; zeros that it does not give are not put, but for the last byte of a memory that MEMORY makes longer. No list that puts the parts in this order, each byte once, has fewer pieces; where they would be more than 4,096, none is written. SOURCE may be commented hexadecimal too (.hex), of which the bytes are written as they are: for a FILE.load they must be a list."),
         ],
     },
     Verb {

@@ -1,4 +1,5 @@
-//! The load list of parts: of the lists that put each byte once, one with the fewest pieces, and of those the shortest.
+//! The load list of parts: of the lists that put them in this order, each byte once, one with the fewest pieces, and of
+//! those the shortest.
 
 use super::commands::{self, MOST_PIECES};
 use std::collections::VecDeque;

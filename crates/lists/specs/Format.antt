@@ -1,4 +1,4 @@
--- A list is well formed exactly where it is the bytes of some commands, one after another, and an
+-- A list is read as some commands exactly where it is the bytes of these, one after another, and an
 -- end. Statements only.
 use Prim.Native.Nat.{ℕ, _<_}
 use mathlib.Core.Path.{_≡_}
@@ -25,7 +25,7 @@ abbrev pub AllBytes : List ℕ → Type 0
 AllBytes list = (i : ℕ) → byteAt list i < 256
 
 pub record Format : Type 0 where
-  -- commands that are written are read
+  -- commands whose numbers have room are read as they are written
   pub read : (cs : List Command) → AllHaveRoom cs → readingOf (listOf cs) ≡ commands cs
   -- a list that is read as some commands is those written, and their numbers have room
   pub only : (list : List ℕ) → AllBytes list → (cs : List Command) → readingOf list ≡ commands cs

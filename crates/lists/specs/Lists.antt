@@ -68,7 +68,7 @@ nextAt list at =
     let x = nextBy (byteAt list at) list at in
     pick (leb (at + widthIn x) (length list)) x Unreadable
 
--- a list's commands up to its end; or it is none
+-- a list's commands up to its end; or that it is malformed
 pub data Reading : Type 0 where
   malformed : Reading
   commands : List Command → Reading
@@ -86,7 +86,7 @@ followed End false rest = malformed
 followed (More c) last rest = before c rest
 followed Unreadable last rest = malformed
 
--- at most so many commands from an offset of the list on
+-- from an offset of the list on, at most so many commands, the end counted
 unfoldable pub readingFrom : ℕ → List ℕ → ℕ → Reading
 readingFrom zero list at = malformed
 readingFrom (suc n) list at =
@@ -94,7 +94,7 @@ readingFrom (suc n) list at =
     let rest = readingFrom n list (at + widthIn x) in
     followed x (eqb (at + 1) (length list)) rest
 
--- the whole list, which has no more commands than bytes
+-- the whole list, which has no more commands than bytes, the end counted
 unfoldable pub readingOf : List ℕ → Reading
 readingOf list = readingFrom (length list) list 0
 

@@ -37,7 +37,7 @@ pub refuses-outside : wholeLoad (replicate 512 5) (0x02 ∷ 9 ∷ 0x01 ∷ 0 ∷
 unfolding wholeLoad
 refuses-outside = refl
 
--- 513 bytes are no memory, whatever the list
+-- 513 bytes are no memory, neither for a list that is 17 nor for one that would be loaded
 pub length-first : (wholeLoad (replicate 513 5) [] ≡ loaded (Refused Length) (replicate 513 5))
     × (wholeLoad (replicate 513 5) patched ≡ loaded (Refused Length) (replicate 513 5))
 unfolding wholeLoad

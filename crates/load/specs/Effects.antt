@@ -19,8 +19,7 @@ pub record LoadEffects (limit : ℕ) (m : Memory) (list : List ℕ) : Type 0 whe
       → byteAt ((loadOf limit m list) .memory) a ≡ orOld (lastPut a (putsOf list)) (byteAt m a)
   -- "Loading leaves unmentioned memory untouched": an address at which no put is keeps its byte
   pub unmentioned : (a : ℕ) → lastPut a (putsOf list) ≡ none → byteAt ((loadOf limit m list) .memory) a ≡ byteAt m a
-  -- "a later put wins": at any other address of a list that is loaded stands the byte of the last
-  -- put there
+  -- "a later put wins": where a list that is loaded puts, the byte of its last put there stands
   pub last : (loadOf limit m list) .answer ≡ Accepted → (a b : ℕ) → lastPut a (putsOf list) ≡ some b
       → byteAt ((loadOf limit m list) .memory) a ≡ b
   -- the memory keeps its length

@@ -1,4 +1,4 @@
--- Not the request: what the judgement of a list has shown before anything is put.
+-- Not the request: what number 1 and the judgement of a list have shown before anything is put.
 use Prim.Native.Nat.{ℕ, _+_, _≤_, _<_}
 use mathlib.Core.Path.{_≡_}
 use mathlib.Core.Bool.{true}
@@ -13,7 +13,7 @@ use Rattle.lists.specs.Refusals.{allInside}
 pub record Puttable (m : Memory) (place : ℕ) (c : Command) : Type 0 where
   pub inside : 0 < length (putBytes c) → place + length (putBytes c) ≤ length m
 
--- what a list puts lies inside the memory
+-- a well formed list, whose puts lie inside the memory, which is one that number 1 allows
 pub record Sound (m : Memory) (list : List ℕ) : Type 0 where
   pub memory : length m < 0x1_0000_0000
   pub whole : wellFormed list ≡ true

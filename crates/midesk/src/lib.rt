@@ -1,5 +1,5 @@
 // The calls for programs in C and Rust: the state as bytes, memory and load list as lent slices. Any
-// bytes are a state and a list; every call answers. Beside them the version of the archive.
+// bytes may be handed in as either; every call answers. Beside them the version of the archive.
 ghost use mathlib.Core.Path.{_≡_};
 ghost use lib.ListN.{length};
 ghost use Rattle.midesk.specs.Exports.{freshCall, loadCall, requestCall, runCall, stepCall, stepCode, version};
