@@ -121,8 +121,10 @@ module _ (list : List ℕ) (small : AllBytes list) where
 
         go : Dec (byteAt list at ≡ 0) → Dec (byteAt list at ≡ 1) → Dec (byteAt list at ≡ 2) → Dec (byteAt list at ≡ 3)
             → Dec (byteAt list at ≡ 4) → Stands at c
-        go (yes e) b2 b3 b4 b5 = absurd (end-unlike c ((of-whole 1 End (More c) (at-00 list at e) h (none-unlike c)) .1))
-        go (no b1) (yes e) b3 b4 b5 = is 5 (Move (record { 0 = wordAt list (at + 1) })) (at-01 list at e) (move-stands e)
+        go (yes e) b2 b3 b4 b5 =
+            absurd (end-unlike c ((of-whole 1 End (More c) (at-00 list at e) h (none-unlike c)) .1))
+        go (no b1) (yes e) b3 b4 b5 =
+            is 5 (Move (record { 0 = wordAt list (at + 1) })) (at-01 list at e) (move-stands e)
         go (no b1) (no b2) (yes e) b4 b5 = is 2 (Byte (byteAt list (at + 1))) (at-02 list at e) (byte-stands e)
         go (no b1) (no b2) (no b3) (yes e) b5 =
             is 5 (Four (byteAt list (at + 1)) (byteAt list (at + 2)) (byteAt list (at + 3)) (byteAt list (at + 4)))
@@ -230,7 +232,8 @@ address-read x q h =
 count-read : (n : ℕ) → n < 0x1_0000 → n / 256 % 256 * 256 + n / 1 % 256 ≡ n
 count-read n h = omega arith
 
-command-read : (p : List ℕ) (c : Command) (q : List ℕ) → HasRoom c → nextAt (p ++ (bytesOfCommand c ++ q)) (length p) ≡ More c
+command-read : (p : List ℕ) (c : Command) (q : List ℕ) → HasRoom c
+    → nextAt (p ++ (bytesOfCommand c ++ q)) (length p) ≡ More c
 unfolding bytesOf
 command-read p (Move a) q w =
     let r = bytesOfCommand (Move a) ++ q in

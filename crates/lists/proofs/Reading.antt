@@ -32,12 +32,16 @@ width-in-positive (More c) = width-positive c
 width-in-positive Unreadable = omega arith
 
 -- enough bytes are left from an offset on
-pub starts-inside : (n at width : ℕ) (b : Bool) → (leb width (n - at) && b) ≡ true → at ≤ n → at + width ≤ n
+starts-inside : (n at width : ℕ) (b : Bool) → (leb width (n - at) && b) ≡ true → at ≤ n → at + width ≤ n
 starts-inside n at width b h l = go (leb width (n - at)) refl h
   where
     go : (a : Bool) → leb width (n - at) ≡ a → (a && b) ≡ true → at + width ≤ n
     go true e h = omega (arith, leb-true)
     go false e h = absurd (false≢true h)
+
+-- a command of so many bytes, which begins with this one, stands there whole
+abbrev pub Whole : List ℕ → ℕ → ℕ → ℕ → Type 0
+Whole list at width k = (at + width ≤ length list) × (byteAt list at ≡ k)
 
 -- the test for a command of so many bytes, by the bytes left from its place on and its own byte
 module _ (n at width c k : ℕ) where
@@ -83,7 +87,8 @@ module _ (list : List ℕ) (at : ℕ) where
 
   pub at-03 : byteAt list at ≡ 0x03
       → nextAt list at
-      ≡ whole 5 (More (Four (byteAt list (at + 1)) (byteAt list (at + 2)) (byteAt list (at + 3)) (byteAt list (at + 4))))
+      ≡ whole 5
+      (More (Four (byteAt list (at + 1)) (byteAt list (at + 2)) (byteAt list (at + 3)) (byteAt list (at + 4))))
   unfolding nextAt nextBy
   at-03 e = rw e
 
@@ -132,7 +137,8 @@ module _ (list : List ℕ) (at : ℕ) where
   -- a command that stands there has all its bytes
   pub next-inside : (c : Command) → nextAt list at ≡ More c → at + widthOf c ≤ length list
   unfolding nextAt
-  next-inside c = go (nextBy (byteAt list at) list at) (leb (at + widthIn (nextBy (byteAt list at) list at)) (length list)) refl
+  next-inside c =
+      go (nextBy (byteAt list at) list at) (leb (at + widthIn (nextBy (byteAt list at) list at)) (length list)) refl
     where
       go : (x : Next) (b : Bool) → leb (at + widthIn x) (length list) ≡ b → pick b x Unreadable ≡ More c
           → at + widthOf c ≤ length list

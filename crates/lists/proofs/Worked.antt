@@ -21,7 +21,8 @@ abbrev move : ℕ → ℕ → ℕ → ℕ → List ℕ
 move a b c d = 0x01 ∷ a ∷ b ∷ c ∷ d ∷ []
 
 -- each command; numbers stand highest byte first
-pub each-command : readingOf (move 0x01 0x02 0x03 0x04 ++ 0x02 ∷ 0xAA ∷ 0x03 ∷ 5 ∷ 6 ∷ 7 ∷ 8 ∷ 0x04 ∷ 0x01 ∷ 0x02 ∷ 0xBB ∷ end)
+pub each-command : readingOf (move 0x01 0x02 0x03 0x04 ++ 0x02 ∷ 0xAA ∷ 0x03 ∷ 5 ∷ 6 ∷ 7 ∷ 8 ∷ 0x04 ∷ 0x01 ∷ 0x02 ∷ 0xBB
+    ∷ end)
     ≡ commands (Move (record { 0 = 0x0102_0304 }) ∷ Byte 0xAA ∷ Four 5 6 7 8 ∷ Copies 0x0102 0xBB ∷ [])
 unfolding wordAt nextBy nextAt followed readingFrom readingOf
 each-command = refl
@@ -89,6 +90,7 @@ answered [] = true
 answered (r ∷ rs) = eqb (loadAnswerNumber (listRefusal 2 512 (r .0))) (r .1) && answered rs
 
 pub worked-refusals : answered rows ≡ true
-unfolding wordAt nextBy nextAt followed readingFrom readingOf realWritesFrom putsFrom putsOf piecesIn piecesOf wellFormed
+unfolding wordAt nextBy nextAt followed readingFrom readingOf realWritesFrom putsFrom putsOf piecesIn piecesOf
+    wellFormed
     allInside listRefusal rows answered
 worked-refusals = refl

@@ -123,7 +123,9 @@ module _ (list : List ℕ) where
         → putFrom m place (restFrom list at)
         ≡ putFrom (sets m place (putBytes c)) (placeAfter place c) (restFrom list (at + widthOf c))
     unfolding soundFrom putFrom putsFrom
-    more-put n place m h = rw (rest-more list at c here) (go (restFrom list (at + widthOf c)) (rw (rest-more list at c here) at h))
+    more-put n place m h =
+        rw (rest-more list at c here)
+        (go (restFrom list (at + widthOf c)) (rw (rest-more list at c here) at h))
       where
         go : (r : Reading) → soundFrom n place (before c r) ≡ true
             → putFrom m place (before c r) ≡ putFrom (sets m place (putBytes c)) (placeAfter place c) r
@@ -138,6 +140,7 @@ module _ (list : List ℕ) where
       go (yes e) = rw (rest-ends list at here e)
       go (no e) = rw (rest-goes-on list at here e)
 
-  pub unreadable-put : (at place : ℕ) (m : Memory) → nextAt list at ≡ Unreadable → putFrom m place (restFrom list at) ≡ m
+  pub unreadable-put : (at place : ℕ) (m : Memory) → nextAt list at ≡ Unreadable
+      → putFrom m place (restFrom list at) ≡ m
   unfolding putFrom
   unreadable-put at place m here = rw (rest-unreadable list at here)

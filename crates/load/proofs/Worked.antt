@@ -16,8 +16,8 @@ use Rattle.load.specs.Loading.{Loaded, loaded, loadRefusal, loadedBy, lo
 
 -- a load, with every definition unfolded that it computes with
 unfoldable pub wholeLoad : Memory → List ℕ → Loaded
-unfolding wordAt allowedLength realWritesFrom commit nextBy nextAt followed readingFrom readingOf putsFrom putsOf piecesIn
-    piecesOf wellFormed allInside listRefusal loadRefusal loadedBy loadOf
+unfolding wordAt allowedLength realWritesFrom commit nextBy nextAt followed readingFrom readingOf putsFrom putsOf
+    piecesIn piecesOf wellFormed allInside listRefusal loadRefusal loadedBy loadOf
 wholeLoad m list = loadOf deskPieces m list
 
 -- 9, then 1 2 3 4, then two times 7 from 0 on; 8 in the place of 1

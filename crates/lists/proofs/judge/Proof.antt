@@ -7,7 +7,8 @@ use borrow.Author.Needs.{needs}
 use lib.ListN.{length}
 use Rattle.lists.specs.Refusals.{listRefusal}
 use Rattle.lists.proofs.Reading.{width-positive, next-inside, restFrom}
-use Rattle.lists.proofs.Judging.{judged, judged-all, judged-pieces, judged-last, judged-early-end, judged-unreadable}
+use Rattle.lists.proofs.Judging.{judged, judged-all, judged-pieces, judged-last, judged-early-end}
+use Rattle.lists.proofs.Judging.{judged-unreadable}
 use Rattle.lists.proofs.Judging.{judged-fitting, judged-outside, pieces-width}
 use Rattle.lists.proofs.Puts.{place-small}
 use Rattle.lists.proofs.judge.Statement.{statement}
@@ -59,12 +60,13 @@ loop-again c =
     let command = told .x .given .0 .0 in
     let here = sym (looked .next-at .ensures) ∙ told .x .given .1 in
     let width = c .before .before .before .before .width .ensures in
-    let count = c .before .before .before .pieces .ensures in (
+    let count = c .before .before .before .pieces .ensures in
+    let fits = sym (c .before .before .fits2 .ensures) ∙ c .before .if1 .taken in (
       omega (arith, next-inside _ _ _ here, width),
       omega (arith, pieces-width command, width, count),
       c .place-after .ensures .1,
       rw (c .place-after .ensures .0, width, count)
-          (sym (judged-fitting _ _ _ _ _ _ command here _ (sym (c .before .before .fits2 .ensures) ∙ c .before .if1 .taken))
+          (sym (judged-fitting _ _ _ _ _ _ command here _ fits)
           ∙ turn .inv .3),
     )
 
@@ -84,12 +86,13 @@ loop-again-2 c =
     let command = told .x .given .0 .0 in
     let here = sym (looked .next-at .ensures) ∙ told .x .given .1 in
     let width = c .before .before .before .width .ensures in
-    let count = c .before .before .pieces .ensures in (
+    let count = c .before .before .pieces .ensures in
+    let fits = sym (c .before .fits2 .ensures) ∙ c .if1 .left in (
       omega (arith, next-inside _ _ _ here, width),
       omega (arith, pieces-width command, width, count),
       turn .inv .2,
       rw (width, count)
-          (sym (judged-outside _ _ _ _ _ _ command here _ (sym (c .before .fits2 .ensures) ∙ c .if1 .left)) ∙ turn .inv .3),
+          (sym (judged-outside _ _ _ _ _ _ command here _ fits) ∙ turn .inv .3),
     )
 
 -- ---- The end

@@ -99,4 +99,6 @@ pub put-all-spec : {M : Type 1} → statement M
 put-all-spec =
     tie.close
     (tie.spec
-    Inv-loop μ-loop loop-holds (λ c κs. search needs) (λ c. search needs) put-requires place-after-requires (λ c κs. search needs) add-at loop-less loop-again (λ c. search needs) (λ c. search needs) returns (λ c. search needs) (λ c. search needs) returns-2)
+    Inv-loop μ-loop loop-holds (λ c κs. search needs) (λ c. search needs) put-requires place-after-requires
+    (λ c κs. search needs) add-at loop-less loop-again (λ c. search needs) (λ c. search needs) returns
+    (λ c. search needs) (λ c. search needs) returns-2)
