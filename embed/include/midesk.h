@@ -56,8 +56,8 @@ extern "C" {
  * sees, MINOR where something is added, MAJOR where a program may have to be changed. MIDESK_VERSION is one number, for
  * comparisons in #if too: 65536 x MAJOR + 256 x MINOR + PATCH.
  */
-#define MIDESK_VERSION_MAJOR 1
-#define MIDESK_VERSION_MINOR 1
+#define MIDESK_VERSION_MAJOR 2
+#define MIDESK_VERSION_MINOR 0
 #define MIDESK_VERSION_PATCH 0
 #define MIDESK_VERSION (MIDESK_VERSION_MAJOR * 65536u + MIDESK_VERSION_MINOR * 256u + MIDESK_VERSION_PATCH)
 

@@ -89,8 +89,22 @@ fn shift(count: i64, operand: u32) -> (u32, u32) {
             value = value >> 1 | value & 0x8000_0000;
         }
     }
-    let sign_differs = value >> 31 != operand >> 31;
-    whole(value, count >= 0 && sign_differs)
+    whole(value, count >= 0 && !product_fits(signed(operand, 4), count))
+}
+
+/// Whether the operand times 2 to the power of the count, as a whole number, fits a word with sign
+/// (request F-2). The number is doubled exactly, once for each place. Where the rest of the count
+/// can't matter it is left out: 0 stays 0, and a number that doesn't fit never does so again, since
+/// doubling leads it farther from 0. No number here is farther from 0 than 2^32.
+fn product_fits(operand: i64, count: i64) -> bool {
+    let mut product = operand;
+    for _ in 0..count {
+        product *= 2;
+        if product == 0 || !fits(product, 4) {
+            break;
+        }
+    }
+    fits(product, 4)
 }
 
 /// ROT: cyclic, left by the count or right by its negative; 32 single

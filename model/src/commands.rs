@@ -77,6 +77,7 @@ fn integer(work: &mut Work, op: Op, operands: &[Operand]) -> Result<(), Alarm> {
     let second = operands.get(1).map_or(0, |operand| operand.value);
     let size = operands[0].size;
     let last = operands[operands.len() - 1];
+    work.notes.add(Note::Values { first, second });
     let by_zero = Alarm { number: 15, argument: 0, part: Part::Operation };
     let (value, flags) = arith::apply(op, first, second, size).ok_or(by_zero)?;
     work.now.status = work.now.status & !FLAGS | flags;

@@ -7,6 +7,7 @@ use crate::desk;
 use crate::entry;
 use crate::list_table::Lists;
 use crate::notes::{Note, Notes};
+use crate::shift_table::Shifts;
 use crate::state::*;
 use crate::work::Part;
 use std::collections::BTreeMap;
@@ -40,6 +41,7 @@ pub struct Cover {
     pub jumps: Counts<(u8, u32, bool)>,
     /// Command byte that keeps flags, flags.
     pub kept: Counts<(u8, u32)>,
+    pub shifts: Shifts,
     pub resumes: Counts<&'static str>,
     /// Level and what became of it.
     pub levels: Counts<(u32, &'static str)>,
@@ -111,6 +113,7 @@ impl Cover {
         }
         let mut byte = 256;
         let mut outcome = FINE;
+        let mut values = (0, 0);
         for note in notes {
             match note {
                 Note::Command(fetched) => byte = u16::from(*fetched),
@@ -126,6 +129,7 @@ impl Cover {
                         }
                     }
                 },
+                Note::Values { first, second } => values = (*first, *second),
                 Note::Alarm { number, part } => {
                     outcome = *number;
                     add(&mut self.alarms, (*number, *part, kernel));
@@ -141,6 +145,9 @@ impl Cover {
         add(&mut self.commands, (byte, kernel, outcome));
         if byte < 256 && outcome == FINE {
             self.flags(byte as u8, before, after, event);
+            if byte == 0x60 {
+                self.shifts.shifted(values, before.status, after.status);
+            }
         }
     }
 

@@ -20,6 +20,7 @@ pub mod notes;
 pub mod operand;
 pub mod rng;
 pub mod sequences;
+pub mod shift_table;
 pub mod state;
 pub mod store;
 pub mod table;

@@ -16,6 +16,11 @@ pub enum Note {
         size: u32,
         broken: Option<&'static str>,
     },
+    /// The operation of a command that sets flags gets these values.
+    Values {
+        first: u32,
+        second: u32,
+    },
     Alarm {
         number: u32,
         part: Part,

@@ -78,15 +78,16 @@ pub fn operate<const SIZE: usize, const OPERATION: u8>(a: u32, b: u32) -> Outcom
     }
 }
 
-/// SH: a word shifted to the left, or to the right where the count is negative.
+/// SH: a word shifted to the left, or to the right where the count is negative. To the left V is set
+/// where shifting back does not give the word.
 #[inline(always)]
 fn shifted(count: u32, value: u32) -> Outcome {
-    let count = count as i32;
-    if count < 0 {
-        return Outcome::of::<4>((value as i32 >> count.unsigned_abs().min(31)) as u32);
+    let right = |word: u32, places: u32| (word as i32 >> places.min(31)) as u32;
+    if (count as i32) < 0 {
+        return Outcome::of::<4>(right(value, count.wrapping_neg()));
     }
-    let high = value.checked_shl(count as u32).unwrap_or(0);
-    Outcome { high, v: ((high ^ value) as i32) < 0, c: false }
+    let high = value.checked_shl(count).unwrap_or(0);
+    Outcome { high, v: right(high, count) != value, c: false }
 }
 
 /// CMP's flags.

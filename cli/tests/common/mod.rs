@@ -28,8 +28,18 @@ pub fn repository() -> PathBuf {
     PathBuf::from(env!("CARGO_MANIFEST_DIR")).join("..")
 }
 
-pub const EXAMPLES: [&str; 9] =
-    ["division", "factorial", "fibonacci", "isolation", "minimum", "minimum_cmp", "sum", "system_call", "user_mode"];
+pub const EXAMPLES: [&str; 10] = [
+    "division",
+    "factorial",
+    "fibonacci",
+    "isolation",
+    "minimum",
+    "minimum_cmp",
+    "shift",
+    "sum",
+    "system_call",
+    "user_mode",
+];
 
 pub fn source(example: &str) -> String {
     std::fs::read_to_string(repository().join(format!("examples/{example}.mi"))).expect("the example")

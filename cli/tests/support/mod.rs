@@ -6,8 +6,18 @@ use std::process::{Command, Output, Stdio};
 
 pub mod images;
 
-pub const EXAMPLES: [&str; 9] =
-    ["division", "factorial", "fibonacci", "isolation", "minimum", "minimum_cmp", "sum", "system_call", "user_mode"];
+pub const EXAMPLES: [&str; 10] = [
+    "division",
+    "factorial",
+    "fibonacci",
+    "isolation",
+    "minimum",
+    "minimum_cmp",
+    "shift",
+    "sum",
+    "system_call",
+    "user_mode",
+];
 
 pub fn here() -> PathBuf {
     PathBuf::from(env!("CARGO_MANIFEST_DIR"))

@@ -20,10 +20,11 @@ pub mod Levels
 pub mod Refusals
 pub mod Accepted
 pub mod UserCalls
--- computed: the tried values and the near misses
+-- computed: the tried values, the near misses, shifts to the left
 pub mod WholeStep
 pub mod TriedValues
 pub mod NearMisses
+pub mod LeftShifts
 -- demand 3
 pub mod Indistinguishable
 pub mod Isolation

@@ -79,11 +79,11 @@ multiplied L a b = exact L (signed L b *ℤ signed L a) false
 unfoldable pub divided : ℕ → ℕ → ℕ → Result
 divided L a b = exact L (quotZ (signed L b) (signed L a)) false
 
--- a zero bit from the right each time; "SH left sets V when the result's sign differs from the
--- operand's"
+-- a zero bit from the right each time; document 02, F-2, in place of a rule on signs: "V is set
+-- exactly when the signed operand times 2 to the power of the count, as a whole number, doesn't fit
+-- a signed word"
 unfoldable pub shiftedLeft : ℕ → ℕ → Result
-shiftedLeft n b =
-    let x = b * 2 ^ n % span 4 in resultOf 4 x (pick (negative 4 b) (not (negative 4 x)) (negative 4 x)) false
+shiftedLeft n b = resultOf 4 (b * 2 ^ n % span 4) (not (fits 4 (signed 4 b *ℤ pos (2 ^ n)))) false
 
 -- b0 from the left each time
 unfoldable pub shiftedRight : ℕ → ℕ → Result

@@ -28,3 +28,5 @@ pub mod Calls
 pub mod Isolation
 -- Tried values, marked *
 pub mod TriedValues
+-- document 02, F-2: what SH to the left does with V
+pub mod LeftShifts

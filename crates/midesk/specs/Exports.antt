@@ -89,10 +89,10 @@ loadLeft r = record { answer = loadAnswerNumber (r .answer); memory = r .memory 
 unfoldable pub loadCall : Memory → List ℕ → LoadLeft
 loadCall m list = loadLeft (loadOf deskPieces m list)
 
--- The version, 1.1.0, as one number
+-- The version, 2.0.0, as one number
 
 abbrev pub versionOf : ℕ → ℕ → ℕ → ℕ
 versionOf major minor patch = major * 65536 + minor * 256 + patch
 
 unfoldable pub version : ℕ
-version = versionOf 1 1 0
+version = versionOf 2 0 0

@@ -105,5 +105,5 @@ pub extern "C" fn midesk_load(mem: &mut [u8], list: &[u8]) -> u32
 pub extern "C" fn midesk_version() -> u32
     ensures { λ r. ⌜ r ≡ version ⌝ }
 {
-    0x01_01_00
+    0x02_00_00
 }

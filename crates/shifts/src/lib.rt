@@ -1,7 +1,9 @@
 // SH and ROT, of words. a is the first operand's value, the count; b the second's, the word.
 ghost use mathlib.Core.Path.{_≡_};
 ghost use Prim.Native.Nat.{_*_, _/_, _%_, _^_, _≤_, _<_};
-ghost use Rattle.machine.specs.Words.{span};
+ghost use lib.IntN.{pos, _*ℤ_};
+ghost use Rattle.machine.specs.Words.{pick, span};
+ghost use Rattle.machine.specs.Integers.{negative, signed, fits, complement};
 ghost use Rattle.machine.specs.Integers.{shiftedLeft, shiftedRight, shifted, rotated};
 use machine::Result;
 use machine::Size;
@@ -21,12 +23,34 @@ fn right(n: u32, x: u32) -> u32
     if n < 32 { x >> n } else { 0 }
 }
 
+// The bits in which the word differs from its sign.
+fn unlike_sign(b: u32) -> u32
+    ensures { λ r. ⌜ r ≡ pick (negative 4 b) (complement 4 b) b ⌝ }
+{
+    if integers::is_negative(Size::W, b) {
+        4294967295 - b
+    } else {
+        b
+    }
+}
+
+// The signed word times 2 ^ n, as a whole number, fits a signed word: the bits that go out and the
+// one that becomes the sign are the sign already.
+fn fits_left(n: u32, b: u32) -> bool
+    ensures { λ r. ⌜ r ≡ fits 4 (signed 4 b *ℤ pos (2 ^ n)) ⌝ }
+{
+    if n < 32 {
+        unlike_sign(b) < 1 << (31 - n)
+    } else {
+        b == 0
+    }
+}
+
 fn shift_left(n: u32, b: u32) -> Result
     ensures value { λ r. ⌜ r ≡ shiftedLeft n b ⌝ }
     ensures small { λ r. ⌜ r .flags < 16 ⌝ }
 {
-    let x = left(n, b);
-    integers::result(Size::W, x, integers::signs_differ(Size::W, b, x), false)
+    integers::result(Size::W, left(n, b), !fits_left(n, b), false)
 }
 
 // A negative word is shifted as its complement, since one bits come in.

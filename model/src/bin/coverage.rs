@@ -1,8 +1,8 @@
 //! Prints what the stored cases reach: `coverage FILE`. Ends with 1 if
-//! anything that document 01 or request F-1 names isn't reached.
+//! anything that document 01 or a request of document 02 names isn't reached.
 
 use model::cover::Cover;
-use model::{flag_table, list_table, store, table};
+use model::{flag_table, list_table, shift_table, store, table};
 
 fn main() {
     let path = std::env::args().nth(1).expect("usage: coverage FILE");
@@ -21,6 +21,7 @@ fn main() {
     list_table::lists(&cover, &mut all);
     flag_table::levels(&cover, &mut all);
     flag_table::flags(&cover, &mut all);
+    shift_table::shifts(&cover, &mut all);
     println!("{} cells to reach, {} missing, {} impossible by the rules", all.cells, all.missing.len(), all.impossible);
     for name in &all.missing {
         println!("missing: {name}");

@@ -15,6 +15,7 @@ pub mod places;
 pub mod refusals;
 pub mod resumes;
 pub mod rules;
+pub mod shifts;
 pub mod special;
 pub mod traps;
 pub mod walks;
@@ -71,5 +72,6 @@ pub fn all() -> Vec<(&'static str, Vec<Case>)> {
         ("load orders", list_refusals::orders()),
         ("load programs", list_programs::programs()),
         ("load mixed", lists::mixed()),
+        ("shifts", shifts::shifts()),
     ]
 }

@@ -14,7 +14,7 @@ use crate::rng::Rng;
 use crate::state::*;
 
 /// Straight kernel code from 512 on a fresh desk, then HALT.
-fn fresh_code(rng: &mut Rng, code: &[u8], steps: u32) -> Case {
+pub fn fresh_code(rng: &mut Rng, code: &[u8], steps: u32) -> Case {
     let length = (512 + code.len() + 1).div_ceil(512).max(2) * 512;
     let mut maker = Maker::new(Rng::new(rng.next()), length);
     maker.lay(512, code);

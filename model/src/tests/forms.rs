@@ -231,7 +231,7 @@ fn flags() {
     assert_eq!(flags_of(0x34, 0x0F, 0xFF), (0xF0, N));
     assert_eq!(flags_of(0x3D, 0x1234, 0x1234), (0, Z));
     assert_eq!(flags_of(0x60, 1, 0x4000_0000), (0x8000_0000, N | V));
-    assert_eq!(flags_of(0x60, 2, 0x4000_0000), (0, Z));
+    assert_eq!(flags_of(0x60, 2, 0x4000_0000), (0, Z | V));
     assert_eq!(flags_of(0x60, 1, 0x8000_0000), (0, Z | V));
     assert_eq!(flags_of(0x60, 0, 0x8000_0000), (0x8000_0000, N));
     assert_eq!(flags_of(0x60, 0x7FFF_FFFF, 0xFFFF_FFFF), (0, Z | V));

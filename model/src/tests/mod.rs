@@ -9,6 +9,7 @@ mod near;
 mod numbers;
 mod order;
 mod sequences;
+mod shifts;
 mod stored;
 mod tried;
 

@@ -24,4 +24,5 @@ fn same_cases_each_time() {
     assert!(gen::grid::grid() == gen::grid::grid());
     assert!(gen::resumes::resumes() == gen::resumes::resumes());
     assert!(gen::lists::mixed() == gen::lists::mixed());
+    assert!(gen::shifts::shifts() == gen::shifts::shifts());
 }
