@@ -1,25 +1,54 @@
 -- Shifts to the left, as the statement has them: four laws, and steps of which each side computes to
 -- the other.
 use Prim.Native.Nat.{ℕ, _*_, _%_, _^_, _≤_, _<_}
-use mathlib.Core.Path.{_≡_, refl}
-use mathlib.Core.Bool.{true, false}
+use mathlib.Core.Path.{_≡_, refl, ap}
+use mathlib.Core.Logic.{_↔_}
+use mathlib.Core.Bool.{Bool, true, false, not}
 use native.Mathlib.Nat.{zero-mul}
 use native.Mathlib.Omega.{arith}
-use borrow.Author.Tests.{ne-eqb}
-use lib.IntN.{pos, _*ℤ_}
+use borrow.Author.Tests.{ne-eqb, not-false}
+use lib.Dec.{eqb}
+use lib.IntN.{ℤ, pos, _*ℤ_}
 use Rattle.machine.specs.Words.{span}
-use Rattle.machine.specs.Integers.{negative, signed, fits, resultOf, plain, exact, shiftedLeft}
+use Rattle.machine.specs.State.{flags, flagV}
+use Rattle.machine.specs.Integers.{negative, signed, fits, kept, resultOf, plain, exact, shiftedLeft}
 use Rattle.machine.specs.TriedValues.{I, R, memoryWith, kernelDesk, ranOn}
 use Rattle.machine.specs.LeftShifts.{shiftRan, LeftShifts}
 use Rattle.machine.proofs.WholeStep.{wholeStep}
 use Rattle.machine.proofs.Differences.{gap-pos, gap-same, gap-mul}
-use Rattle.machine.proofs.Widths.{signed-gap, signed-fits}
+use Rattle.machine.proofs.Widths.{signed-gap, signed-fits, signed-kept, kept-lt}
 use Rattle.machine.proofs.Magnitudes.{shift-left-all}
 use Rattle.machine.proofs.Shifts.{shift-fits-none, kept-multiple}
 
 product : (n b : ℕ) → shiftedLeft n b ≡ exact 4 (signed 4 b *ℤ pos (2 ^ n)) false
 unfolding shiftedLeft
 product n b = rw (kept-multiple 4 b (2 ^ n))
+
+-- V of the flags is V
+v-of : (n z v : Bool) → flagV (flags n z v false) ≡ v
+v-of true true true = refl
+v-of true true false = refl
+v-of true false true = refl
+v-of true false false = refl
+v-of false true true = refl
+v-of false true false = refl
+v-of false false true = refl
+v-of false false false = refl
+
+range-check : (n b : ℕ) → let r = shiftedLeft n b in
+    (flagV (r .flags) ≡ false) ↔ (signed 4 (r .value) ≡ signed 4 b *ℤ pos (2 ^ n))
+unfolding resultOf
+range-check n b =
+    let z = signed 4 b *ℤ pos (2 ^ n) in
+    let x = kept 4 z in
+    let v = v-of (negative 4 x) (eqb x 0) (not (fits 4 z)) in
+    rw (product n b, v) (exactly z)
+  where
+    exactly : (z : ℤ) → (not (fits 4 z) ≡ false) ↔ (signed 4 (kept 4 z) ≡ z)
+    exactly z = (
+      λ e. signed-kept 4 z (omega arith) (not-false (fits 4 z) e),
+      λ e. ap not (rw e at (signed-fits 4 (kept 4 z) (omega arith) (kept-lt 4 z))),
+    )
 
 by-0 : (b : ℕ) → b < span 4 → shiftedLeft 0 b ≡ plain 4 b
 unfolding shiftedLeft
@@ -42,6 +71,7 @@ pub left-shifts : LeftShifts
 unfolding wholeStep I R memoryWith kernelDesk ranOn shiftRan
 left-shifts = record {
   product = product;
+  range-check = range-check;
   by-0 = by-0;
   of-0 = of-0;
   all-lost = all-lost;
@@ -50,8 +80,9 @@ left-shifts = record {
   one-by-30 = (refl, refl);
   minus-one-by-31 = (refl, refl);
   minus-one-by-32 = (refl, refl);
-  two-bits-lost = (refl, refl);
-  one-bit-lost = (refl, refl);
+  two-to-30-by-2 = (refl, refl);
+  five-by-30 = (refl, refl);
+  minus-three-by-31 = (refl, refl);
   lowest-by-0 = (refl, refl);
   lowest-by-1 = (refl, refl);
   zero-by-32 = (refl, refl);

@@ -1,5 +1,5 @@
--- Shifts and rotations of a word by unsigned arithmetic, for any count (document 000, 2.5; document
--- 01, "One step").
+-- Shifts and rotations by unsigned arithmetic, for any count (document 000, 2.5; document 01, "One
+-- step"; document 02, F-2): of a word, and what V of a shift to the left needs for any width.
 use Prim.Native.Nat.{ℕ, zero, suc, _+_, _-_, _*_, _/_, _%_, _^_, _≤_, _<_}
 use mathlib.Core.Path.{_≡_, refl, sym, ap, _∙_}
 use mathlib.Core.Bool.{true, false}

@@ -4,10 +4,12 @@
 -- b and count n, and worked steps. The proof is `left-shifts` of proofs/LeftShifts.antt.
 use Prim.Native.Nat.{ℕ, _+_, _^_, _≤_, _<_}
 use mathlib.Core.Path.{_≡_}
+use mathlib.Core.Logic.{_↔_}
 use mathlib.Core.Bool.{true, false}
 use mathlib.Core.List.{_∷_, _++_}
 use lib.IntN.{pos, _*ℤ_}
 use Rattle.machine.specs.Words.{span}
+use Rattle.machine.specs.State.{flagV}
 use Rattle.machine.specs.Integers.{signed, resultOf, plain, exact, shiftedLeft}
 use Rattle.machine.specs.Calls.{Stepped}
 use Rattle.machine.specs.TriedValues.{I, R, minus, ranOn, registerAfter, flagsAfter}
@@ -21,13 +23,16 @@ abbrev pub Gives : ℕ → ℕ → ℕ → ℕ → Type 0
 Gives n b x f = (registerAfter 0 (shiftRan n b) ≡ x) × (flagsAfter (shiftRan n b) ≡ f)
 
 pub record LeftShifts : Type 0 where
-  -- the result, too, is the whole number's, kept modulo 256^L
+  -- the result is the whole number's, too, kept modulo 256^L
   pub product : (n b : ℕ) → shiftedLeft n b ≡ exact 4 (signed 4 b *ℤ pos (2 ^ n)) false
+  -- so a check of V is a check of the range: V is clear exactly where the result is that number
+  pub range-check : (n b : ℕ) → let r = shiftedLeft n b in
+      (flagV (r .flags) ≡ false) ↔ (signed 4 (r .value) ≡ signed 4 b *ℤ pos (2 ^ n))
   -- a count of 0 always fits
   pub by-0 : (b : ℕ) → b < span 4 → shiftedLeft 0 b ≡ plain 4 b
   -- an operand of 0 always fits
   pub of-0 : (n : ℕ) → shiftedLeft n 0 ≡ plain 4 0
-  -- the shifts that lose everything, by 32 and more: 0, flags Z V
+  -- the shifts that lose everything, by 32 and more, of any operand but 0: 0, flags Z V
   pub all-lost : (n b : ℕ) → 32 ≤ n → 0 < b → b < span 4 → shiftedLeft n b ≡ resultOf 4 0 true false
   -- "moves 1 left by 32 places, gets 0": flags Z V
   pub one-by-32 : Gives 32 1 0 (4 + 2)
@@ -37,9 +42,10 @@ pub record LeftShifts : Type 0 where
   -- -2 ^ 31 fits: N only
   pub minus-one-by-31 : Gives 31 (minus 1) 0x8000_0000 8
   pub minus-one-by-32 : Gives 32 (minus 1) 0 (4 + 2)
-  -- what the signs do not show: bits are lost, the signs are alike
-  pub two-bits-lost : Gives 2 0x4000_0000 0 (4 + 2)
-  pub one-bit-lost : Gives 30 5 0x4000_0000 2
+  -- what the old rule did not see: the number does not fit, though the signs are alike
+  pub two-to-30-by-2 : Gives 2 0x4000_0000 0 (4 + 2)
+  pub five-by-30 : Gives 30 5 0x4000_0000 2
+  pub minus-three-by-31 : Gives 31 (minus 3) 0x8000_0000 (8 + 2)
   pub lowest-by-0 : Gives 0 0x8000_0000 0x8000_0000 8
   pub lowest-by-1 : Gives 1 0x8000_0000 0 (4 + 2)
   pub zero-by-32 : Gives 32 0 0 4
