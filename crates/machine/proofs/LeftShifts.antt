@@ -1,24 +1,26 @@
 -- Shifts to the left, as the statement has them: four laws, and steps of which each side computes to
 -- the other.
-use Prim.Native.Nat.{ℕ, _*_, _%_, _^_, _≤_, _<_}
-use mathlib.Core.Path.{_≡_, refl, ap}
+use Prim.Native.Nat.{ℕ, _-_, _*_, _%_, _^_, _≤_, _<_}
+use mathlib.Core.Path.{_≡_, refl, ap, _∙_}
 use mathlib.Core.Logic.{_↔_}
 use mathlib.Core.Bool.{Bool, true, false, not}
 use native.Mathlib.Nat.{zero-mul}
 use native.Mathlib.Omega.{arith}
-use borrow.Author.Tests.{ne-eqb, not-false}
+use borrow.Author.Tests.{le-ltb, lt-leb, not-false}
 use lib.Dec.{eqb}
 use lib.IntN.{ℤ, pos, _*ℤ_}
+use lib.Pow.{pow-pos}
 use Rattle.machine.specs.Words.{span}
 use Rattle.machine.specs.State.{flags, flagV}
-use Rattle.machine.specs.Integers.{negative, signed, fits, kept, resultOf, plain, exact, shiftedLeft}
+use Rattle.machine.specs.Integers.{half, negative, signed, fits, kept, resultOf, plain, exact, complement}
+use Rattle.machine.specs.Integers.{shiftedLeft}
 use Rattle.machine.specs.TriedValues.{I, R, memoryWith, kernelDesk, ranOn}
 use Rattle.machine.specs.LeftShifts.{shiftRan, LeftShifts}
 use Rattle.machine.proofs.WholeStep.{wholeStep}
 use Rattle.machine.proofs.Differences.{gap-pos, gap-same, gap-mul}
-use Rattle.machine.proofs.Widths.{signed-gap, signed-fits, signed-kept, kept-lt}
-use Rattle.machine.proofs.Magnitudes.{shift-left-all}
-use Rattle.machine.proofs.Shifts.{shift-fits-none, kept-multiple}
+use Rattle.machine.proofs.Widths.{by-sign, signed-gap, signed-fits, signed-kept, kept-lt}
+use Rattle.machine.proofs.Magnitudes.{shift-left-all, shift-right-all}
+use Rattle.machine.proofs.Shifts.{kept-multiple, multiple-low, multiple-high}
 
 product : (n b : ℕ) → shiftedLeft n b ≡ exact 4 (signed 4 b *ℤ pos (2 ^ n)) false
 unfolding shiftedLeft
@@ -65,7 +67,16 @@ of-0 n = rw (zero-mul (2 ^ n))
 all-lost : (n b : ℕ) → 32 ≤ n → 0 < b → b < span 4 → shiftedLeft n b ≡ resultOf 4 0 true false
 unfolding shiftedLeft
 all-lost n b h p l =
-    rw (shift-left-all 4 b n h, shift-fits-none 4 b (omega arith) l n h, ne-eqb b 0 (λ e. absurd (omega arith)))
+    let k = 2 ^ n in
+    let over : fits 4 (signed 4 b *ℤ pos k) ≡ false =
+    by-sign 4 b (λ t. fits 4 (signed 4 b *ℤ pos k) ≡ false)
+    (λ q.
+    multiple-high 4 b k (omega arith) l (pow-pos n) q
+    ∙ rw (shift-right-all 4 (half 4) n h (omega arith)) (le-ltb (complement 4 b) 0 (omega arith)))
+    (λ q.
+    multiple-low 4 b k (omega arith) l (pow-pos n) q
+    ∙ rw (shift-right-all 4 (half 4 - 1) n h (omega arith)) (lt-leb b 0 p)) in
+    rw (shift-left-all 4 b n h, over)
 
 pub left-shifts : LeftShifts
 unfolding wholeStep I R memoryWith kernelDesk ranOn shiftRan

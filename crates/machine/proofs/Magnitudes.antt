@@ -154,12 +154,6 @@ span-bits (suc L) =
     let e : 8 * suc L ≡ 8 * L + 8 = omega arith in
     rw (e, pow-add 2 (8 * L) 8, pow-suc 256 L, span-bits L)
 
-pub half-bits : (L : ℕ) → 1 ≤ L → half L ≡ 2 ^ (8 * L - 1)
-half-bits L l =
-    let e : 8 * L ≡ 8 * L - 1 + 1 = omega arith in
-    let twice : span L ≡ 2 ^ (8 * L - 1) * 2 = span-bits L ∙ ap (λ (k : ℕ). 2 ^ k) e ∙ pow-add 2 (8 * L - 1) 1 in
-    omega arith
-
 module _ (L x n : ℕ) (all : 8 * L ≤ n) where
   pub shift-left-all : x * 2 ^ n % span L ≡ 0
   shift-left-all =

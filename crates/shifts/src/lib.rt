@@ -2,8 +2,8 @@
 ghost use mathlib.Core.Path.{_≡_};
 ghost use Prim.Native.Nat.{_*_, _/_, _%_, _^_, _≤_, _<_};
 ghost use lib.IntN.{pos, _*ℤ_};
-ghost use Rattle.machine.specs.Words.{pick, span};
-ghost use Rattle.machine.specs.Integers.{negative, signed, fits, complement};
+ghost use Rattle.machine.specs.Words.{span};
+ghost use Rattle.machine.specs.Integers.{signed, fits};
 ghost use Rattle.machine.specs.Integers.{shiftedLeft, shiftedRight, shifted, rotated};
 use machine::Result;
 use machine::Size;
@@ -23,27 +23,16 @@ fn right(n: u32, x: u32) -> u32
     if n < 32 { x >> n } else { 0 }
 }
 
-// The bits in which the word differs from its sign.
-fn unlike_sign(b: u32) -> u32
-    ensures { λ r. ⌜ r ≡ pick (negative 4 b) (complement 4 b) b ⌝ }
-{
-    if integers::is_negative(Size::W, b) {
-        4294967295 - b
-    } else {
-        b
-    }
-}
-
-// The signed word times 2 ^ n, as a whole number, fits a signed word: the bits that go out and the
-// one that becomes the sign are the sign already.
+// The signed word times 2 ^ n, as a whole number, fits a signed word: the word is at most the
+// highest one and at least the lowest one, both divided by 2 ^ n. A negative word has the magnitude
+// of its complement and one more.
 fn fits_left(n: u32, b: u32) -> bool
     ensures { λ r. ⌜ r ≡ fits 4 (signed 4 b *ℤ pos (2 ^ n)) ⌝ }
 {
-    if n < 32 {
-        unlike_sign(b) < 1 << (31 - n)
-    } else {
-        b == 0
+    if integers::is_negative(Size::W, b) {
+        return 4294967295 - b < right(n, 2147483648);
     }
+    b <= right(n, 2147483647)
 }
 
 fn shift_left(n: u32, b: u32) -> Result

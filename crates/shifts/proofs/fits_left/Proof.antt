@@ -1,26 +1,34 @@
--- `fits_left` is right: by the law for any width, at four bytes. 2 ^ (31 - n) has room in a word.
+-- `fits_left` is right: by the laws on multiples of any width, at four bytes.
 use borrow.Author.Needs.{needs}
-use Prim.Native.Nat.{_-_, _*_, _^_, _%_, _≤_}
-use mathlib.Core.Path.{_≡_, sym}
+use Prim.Native.Nat.{_≤_, _<_, _^_}
+use mathlib.Core.Path.{sym, _∙_}
 use native.Mathlib.Omega.{arith}
-use lib.Pow.{pow-mono}
-use Rattle.machine.proofs.Shifts.{shift-fits, shift-fits-none}
+use borrow.Author.Tests.{leb-true, leb-false}
+use lib.Pow.{pow-pos}
+use Rattle.machine.specs.Integers.{half, negative, complement}
+use Rattle.machine.proofs.Shifts.{multiple-low, multiple-high}
 use Rattle.shifts.proofs.fits_left.Statement.{statement}
 use Rattle.shifts.proofs.fits_left.Tie as tie
 
 returns : tie.Need-returns
+unfolding negative complement
 returns c =
-    let n = c .before .before .args .n in
-    let b = c .before .before .args .b in
-    let room : 2 ^ (31 - n) ≤ 2 ^ 31 = pow-mono {i = 31 - n} {j = 31} (omega arith) in
-    let bound : 1 * 2 ^ (31 - n) % 4294967296 ≡ 2 ^ (31 - n) = omega arith in
-    rw (c .unlike-sign .ensures, bound) (sym (shift-fits 4 b (omega arith) (omega arith) n (omega arith)))
+    let sign = c .before .before in
+    let n = sign .before .args .n in
+    let b = sign .before .args .b in
+    let below : half 4 ≤ b = leb-true (half 4) b (sym (sign .is-negative .ensures) ∙ c .before .if1 .taken) in
+    rw (c .right .ensures .0) (sym (multiple-high 4 b (2 ^ n) (omega arith) (omega arith) (pow-pos n) below))
 
 returns-2 : tie.Need-returns-2
+unfolding negative
 returns-2 c =
-    let n = c .before .args .n in
-    let b = c .before .args .b in
-    sym (shift-fits-none 4 b (omega arith) (omega arith) n (c .if1 .left))
+    let sign = c .before .before in
+    let n = sign .before .args .n in
+    let b = sign .before .args .b in
+    let above : b < half 4 = leb-false (half 4) b (sym (sign .is-negative .ensures) ∙ c .before .if1 .left) in
+    rw (c .right2 .ensures .0) (sym (multiple-low 4 b (2 ^ n) (omega arith) (omega arith) (pow-pos n) above))
 
 pub fits-left-spec : {M : Type 1} → statement M
-fits-left-spec = tie.close (tie.spec (λ c κs. search needs) (λ c. search needs) (λ c. search needs) returns returns-2)
+fits-left-spec =
+    tie.close
+    (tie.spec (λ c κs. search needs) (λ c. search needs) (λ c κs. search needs) returns (λ c κs. search needs) returns-2)
