@@ -1,4 +1,4 @@
--- Shifts to the left, as the statement has them: four laws, and steps of which each side computes to
+-- Shifts to the left, as the statement has them: five laws, and steps of which each side computes to
 -- the other.
 use Prim.Native.Nat.{ℕ, _-_, _*_, _%_, _^_, _≤_, _<_}
 use mathlib.Core.Path.{_≡_, refl, ap, _∙_}
@@ -18,7 +18,7 @@ use Rattle.machine.specs.TriedValues.{I, R, memoryWith, kernelDesk, ranO
 use Rattle.machine.specs.LeftShifts.{shiftRan, LeftShifts}
 use Rattle.machine.proofs.WholeStep.{wholeStep}
 use Rattle.machine.proofs.Differences.{gap-pos, gap-same, gap-mul}
-use Rattle.machine.proofs.Widths.{by-sign, signed-gap, signed-fits, signed-kept, kept-lt}
+use Rattle.machine.proofs.Widths.{by-sign, signed-gap, signed-fits, signed-kept, exact-fits}
 use Rattle.machine.proofs.Magnitudes.{shift-left-all, shift-right-all}
 use Rattle.machine.proofs.Shifts.{kept-multiple, multiple-low, multiple-high}
 
@@ -49,7 +49,7 @@ range-check n b =
     exactly : (z : ℤ) → (not (fits 4 z) ≡ false) ↔ (signed 4 (kept 4 z) ≡ z)
     exactly z = (
       λ e. signed-kept 4 z (omega arith) (not-false (fits 4 z) e),
-      λ e. ap not (rw e at (signed-fits 4 (kept 4 z) (omega arith) (kept-lt 4 z))),
+      λ e. ap not (exact-fits 4 z (omega arith) e),
     )
 
 by-0 : (b : ℕ) → b < span 4 → shiftedLeft 0 b ≡ plain 4 b
@@ -71,10 +71,10 @@ all-lost n b h p l =
     let over : fits 4 (signed 4 b *ℤ pos k) ≡ false =
     by-sign 4 b (λ t. fits 4 (signed 4 b *ℤ pos k) ≡ false)
     (λ q.
-    multiple-high 4 b k (omega arith) l (pow-pos n) q
+    multiple-high 4 b k (omega arith) (pow-pos n) l q
     ∙ rw (shift-right-all 4 (half 4) n h (omega arith)) (le-ltb (complement 4 b) 0 (omega arith)))
     (λ q.
-    multiple-low 4 b k (omega arith) l (pow-pos n) q
+    multiple-low 4 b k (omega arith) (pow-pos n) q
     ∙ rw (shift-right-all 4 (half 4 - 1) n h (omega arith)) (lt-leb b 0 p)) in
     rw (shift-left-all 4 b n h, over)
 

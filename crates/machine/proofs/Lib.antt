@@ -20,7 +20,7 @@ pub mod Levels
 pub mod Refusals
 pub mod Accepted
 pub mod UserCalls
--- computed: the tried values, the near misses, shifts to the left
+-- computed: the tried values, the near misses; shifts to the left, laws and steps
 pub mod WholeStep
 pub mod TriedValues
 pub mod NearMisses

@@ -2,6 +2,7 @@
 -- step"; document 02, F-2): of a word, and what V of a shift to the left needs for any width.
 use Prim.Native.Nat.{ℕ, suc, _+_, _-_, _*_, _/_, _%_, _^_, _≤_, _<_}
 use mathlib.Core.Path.{_≡_, refl, sym, ap, _∙_}
+use mathlib.Core.Logic.{_↔_}
 use mathlib.Core.Bool.{true, false}
 use native.Mathlib.Nat.{mul-assoc, add-mul-div-right, le-div-iff-mul-le}
 use native.Mathlib.Omega.{arith}
@@ -42,22 +43,26 @@ kept-multiple L x k =
     kept-gap L (x * k) 0 (b0 L x * k)
     (gap-shift (x * k + 0 * span L) (b0 L x * k * span L) (gap-mul (signed-gap L x) (gap-pos k)) (omega arith))
 
--- it fits where the number is at most the highest one, and at least the lowest one, divided by k
-module _ (L x k : ℕ) (wide : 1 ≤ L) (fx : x < span L) (some : 0 < k) where
+-- it fits where the number is at most the highest one, and at least the lowest one, both divided by
+-- k, the fraction dropped
+module _ (L x k : ℕ) (wide : 1 ≤ L) (some : 0 < k) where
+  by-quotient : (m n : ℕ) → (m ≤ n / k) ↔ (m * k ≤ n)
+  by-quotient m n = le-div-iff-mul-le some
+
   pub multiple-low : x < half L → fits L (signed L x *ℤ pos k) ≡ leb x ((half L - 1) / k)
   multiple-low h =
-      let top = half L - 1 in
-      let q = le-div-iff-mul-le some in
+      let q = by-quotient x (half L - 1) in
       rw (signed-low-is L x h)
       (withSign-fits L false (x * k) wide
-      ∙ leb-same (suc (x * k)) (half L) x (top / k) (λ p. q .1 (omega arith)) (λ p. omega (arith, q .0 p)))
+      ∙ leb-same (suc (x * k)) (half L) x ((half L - 1) / k) (λ p. q .1 (omega arith)) (λ p. omega (arith, q .0 p)))
 
-  pub multiple-high : half L ≤ x → fits L (signed L x *ℤ pos k) ≡ ltb (complement L x) (half L / k)
+  -- a negative number is minus its complement and one more
+  pub multiple-high : x < span L → half L ≤ x → fits L (signed L x *ℤ pos k) ≡ ltb (complement L x) (half L / k)
   unfolding complement
-  multiple-high h =
+  multiple-high l h =
       let m = suc (span L - 1 - x) in
-      let q = le-div-iff-mul-le some in
-      rw (signed-high-is L x h fx)
+      let q = by-quotient m (half L) in
+      rw (signed-high-is L x h l)
       (ap (fits L) (withSign-mul true false m k)
       ∙ withSign-fits L true (m * k) wide
       ∙ leb-same (m * k) (half L) m (half L / k) (q .1) (q .0))

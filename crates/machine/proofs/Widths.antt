@@ -165,10 +165,13 @@ signed-kept L (negsuc n) l e =
     let q : n % span L ≡ n = mod-eq-of-lt small in
     rw q (gap-same (signed-high L (span L - 1 - n) (omega arith)) g (omega arith))
 
+pub exact-fits : (L : ℕ) (z : ℤ) → 1 ≤ L → signed L (kept L z) ≡ z → fits L z ≡ true
+exact-fits L z l q = rw q at (signed-fits L (kept L z) l (kept-lt L z))
+
 -- V says that the kept result is not the exact one
 pub overflow-not-exact : (L : ℕ) (z : ℤ) → 1 ≤ L → fits L z ≡ false → signed L (kept L z) ≡ z → ⊥
 overflow-not-exact L z l e q =
-    let t : fits L z ≡ true = rw q at (signed-fits L (kept L z) l (kept-lt L z)) in
+    let t = exact-fits L z l q in
     let c : _≡_ {A = ℕ} 0 1 = cc in
     omega arith
 

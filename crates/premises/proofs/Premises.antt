@@ -1,6 +1,6 @@
 -- The premises of demand 3 can be met, and each is needed: desks and memories of 2,048 bytes that
 -- show it.
-use Prim.Native.Nat.{ℕ, zero, suc, _+_, _-_, _/_, _<_, _≤_}
+use Prim.Native.Nat.{ℕ, zero, suc, _-_, _/_, _<_, _≤_}
 use mathlib.Core.Path.{_≡_, refl, sym, ap}
 use mathlib.Core.Logic.{_≢_}
 use mathlib.Core.Bool.{Bool, true, false, _&&_, _||_, or-true}
@@ -41,12 +41,12 @@ deskAt s r15 = record {
   mark = Running;
 }
 
--- from 1024 on: MOVE B I 80h,524; 1037: MOVE B 1536,R0; 1050: MOVE W I 7,1280; 1063: SH I 30,1280,R1
+-- from 1024 on: MOVE B I 80h,524; 1037: MOVE B 1536,R0; 1050: MOVE W I 5,1280; 1063: SH I 30,1280,R1
 code : List ℕ
 code =
     0x10 ∷ 1 ∷ 0x00 ∷ 0 ∷ 0 ∷ 0x00 ∷ 0x80 ∷ 0 ∷ 0x00 ∷ 0 ∷ 0 ∷ 0x02 ∷ 0x0C
     ∷ 0x10 ∷ 0 ∷ 0x00 ∷ 0 ∷ 0 ∷ 0x06 ∷ 0x00 ∷ 2 ∷ 0x00 ∷ 0 ∷ 0 ∷ 0x00 ∷ 0x00
-    ∷ 0x12 ∷ 1 ∷ 0x00 ∷ 0 ∷ 0 ∷ 0x00 ∷ 0x07 ∷ 0 ∷ 0x00 ∷ 0 ∷ 0 ∷ 0x05 ∷ 0x00
+    ∷ 0x12 ∷ 1 ∷ 0x00 ∷ 0 ∷ 0 ∷ 0x00 ∷ 0x05 ∷ 0 ∷ 0x00 ∷ 0 ∷ 0 ∷ 0x05 ∷ 0x00
     ∷ 0x60 ∷ 1 ∷ 0x00 ∷ 0 ∷ 0 ∷ 0x00 ∷ 0x1E ∷ 0 ∷ 0x00 ∷ 0 ∷ 0 ∷ 0x05 ∷ 0x00 ∷ 2 ∷ 0x10 ∷ 0 ∷ 0 ∷ 0x00 ∷ 0x00
     ∷ []
 
@@ -149,7 +149,7 @@ computing = tt
 
 -- ---- All premises met
 
--- MOVE W I 7,1280, SH I 30,1280,R1 with flags N V, a request of level 5, kernel entry 21; a byte of
+-- MOVE W I 5,1280, SH I 30,1280,R1 with V alone, a request of level 5, kernel entry 21; a byte of
 -- frame 3 differs
 pub premises-met : Met
 unfolding computing
@@ -163,8 +163,8 @@ premises-met = record {
       (λ n. refl) p tt;
   usable = record { held = refl; accepted = (refl, (refl, (refl, (refl, tt)))) };
   usable′ = record { held = refl; accepted = (refl, (refl, (refl, (refl, tt)))) };
-  writes = λ e. eqb-false 7 0 refl (ap (λ (x : Memory). byteAt x 1283) e);
-  saved = savedBytes (0 ∷ 0xC000_0000 ∷ replicate 13 0 ++ 1082 ∷ []) (8 + 2) 5;
+  writes = λ e. eqb-false 5 0 refl (ap (λ (x : Memory). byteAt x 1283) e);
+  saved = savedBytes (0 ∷ 0x4000_0000 ∷ replicate 13 0 ++ 1082 ∷ []) 2 5;
   ends = refl;
 }
 

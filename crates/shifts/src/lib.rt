@@ -24,8 +24,8 @@ fn right(n: u32, x: u32) -> u32
 }
 
 // The signed word times 2 ^ n, as a whole number, fits a signed word: the word is at most the
-// highest one and at least the lowest one, both divided by 2 ^ n. A negative word has the magnitude
-// of its complement and one more.
+// highest one and at least the lowest one, both divided by 2 ^ n, the fraction dropped. A negative
+// word is minus its complement and one more, so that < stands for <= there.
 fn fits_left(n: u32, b: u32) -> bool
     ensures { λ r. ⌜ r ≡ fits 4 (signed 4 b *ℤ pos (2 ^ n)) ⌝ }
 {

@@ -17,7 +17,7 @@ returns c =
     let n = sign .before .args .n in
     let b = sign .before .args .b in
     let below : half 4 ≤ b = leb-true (half 4) b (sym (sign .is-negative .ensures) ∙ c .before .if1 .taken) in
-    rw (c .right .ensures .0) (sym (multiple-high 4 b (2 ^ n) (omega arith) (omega arith) (pow-pos n) below))
+    rw (c .right .ensures .0) (sym (multiple-high 4 b (2 ^ n) (omega arith) (pow-pos n) (omega arith) below))
 
 returns-2 : tie.Need-returns-2
 unfolding negative
@@ -26,9 +26,10 @@ returns-2 c =
     let n = sign .before .args .n in
     let b = sign .before .args .b in
     let above : b < half 4 = leb-false (half 4) b (sym (sign .is-negative .ensures) ∙ c .before .if1 .left) in
-    rw (c .right2 .ensures .0) (sym (multiple-low 4 b (2 ^ n) (omega arith) (omega arith) (pow-pos n) above))
+    rw (c .right2 .ensures .0) (sym (multiple-low 4 b (2 ^ n) (omega arith) (pow-pos n) above))
 
 pub fits-left-spec : {M : Type 1} → statement M
 fits-left-spec =
     tie.close
-    (tie.spec (λ c κs. search needs) (λ c. search needs) (λ c κs. search needs) returns (λ c κs. search needs) returns-2)
+    (tie.spec (λ c κs. search needs) (λ c. search needs) (λ c κs. search needs) returns (λ c κs. search needs)
+    returns-2)
