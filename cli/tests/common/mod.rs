@@ -1,8 +1,12 @@
 //! What several tests share: random numbers from a seed, and the examples.
-#![allow(dead_code)]
+#![allow(dead_code, unused_imports)]
 
 use desk::image::Image;
 use std::path::PathBuf;
+
+mod examples;
+
+pub use examples::EXAMPLES;
 
 /// Random numbers (xorshift64*), the same at every run.
 pub struct Random(pub u64);
@@ -27,19 +31,6 @@ impl Random {
 pub fn repository() -> PathBuf {
     PathBuf::from(env!("CARGO_MANIFEST_DIR")).join("..")
 }
-
-pub const EXAMPLES: [&str; 10] = [
-    "division",
-    "factorial",
-    "fibonacci",
-    "isolation",
-    "minimum",
-    "minimum_cmp",
-    "shift",
-    "sum",
-    "system_call",
-    "user_mode",
-];
 
 pub fn source(example: &str) -> String {
     std::fs::read_to_string(repository().join(format!("examples/{example}.mi"))).expect("the example")

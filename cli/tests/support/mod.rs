@@ -1,23 +1,14 @@
 //! What the tests of run, debug, map and picture share: calls of the program, stored texts, random numbers.
-#![allow(dead_code)]
+#![allow(dead_code, unused_imports)]
 
 use std::path::{Path, PathBuf};
 use std::process::{Command, Output, Stdio};
 
+#[path = "../common/examples.rs"]
+mod examples;
 pub mod images;
 
-pub const EXAMPLES: [&str; 10] = [
-    "division",
-    "factorial",
-    "fibonacci",
-    "isolation",
-    "minimum",
-    "minimum_cmp",
-    "shift",
-    "sum",
-    "system_call",
-    "user_mode",
-];
+pub use examples::EXAMPLES;
 
 pub fn here() -> PathBuf {
     PathBuf::from(env!("CARGO_MANIFEST_DIR"))
