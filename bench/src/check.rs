@@ -1,10 +1,12 @@
-//! Before timing: every contender must come to the same end on every loop, and load every list to the same memory.
+//! Before timing: every contender must come to the same end on every loop, and load every list and every pair of lists
+//! to the same memory.
 
 use crate::contender::{Contender, CONTENDERS};
 use crate::layout::Bench;
 use crate::lists::Lists;
 use crate::loader::LOADERS;
 use crate::loops::{Loop, LENGTHS};
+use crate::pairs::{self, Pairs};
 use crate::state::State;
 
 /// What a run leaves.
@@ -65,6 +67,26 @@ pub fn check_lists(kind: Lists) -> Result<(), String> {
             if left.iter().any(|memory| *memory != left[0]) {
                 return Err(format!("{}, memory {length}: proved and plain leave different bytes", kind.name()));
             }
+        }
+    }
+    Ok(())
+}
+
+/// Loads the pairs of a kind, one after the other.
+pub fn check_pairs(kind: Pairs) -> Result<(), String> {
+    let mut left: [Vec<u8>; LOADERS.len()] = LOADERS.map(|_| (0..pairs::LENGTH).map(|at| at as u8).collect());
+    for [first, second] in &kind.pairs() {
+        for (loader, memory) in LOADERS.iter().zip(&mut left) {
+            let mut scratch = vec![0xFF; pairs::LENGTH];
+            loader
+                .load_both(memory, &first.bytes, &second.bytes, &mut scratch)
+                .map_err(|number| format!("{}: {} refuses a pair by {number}", kind.name(), loader.name()))?;
+            if scratch.iter().any(|byte| *byte != 0) {
+                return Err(format!("{}: {} leaves a scratch that is not all zeros", kind.name(), loader.name()));
+            }
+        }
+        if left.iter().any(|memory| *memory != left[0]) {
+            return Err(format!("{}: proved and plain leave different bytes of a pair", kind.name()));
         }
     }
     Ok(())

@@ -51,23 +51,23 @@ impl Lists {
 }
 
 impl List {
-    fn to(&mut self, address: u32) {
+    pub fn to(&mut self, address: u32) {
         self.bytes.push(0x01);
         self.bytes.extend(address.to_be_bytes());
     }
 
-    fn piece(&mut self, command: &[u8], put: usize) {
+    pub fn piece(&mut self, command: &[u8], put: usize) {
         self.bytes.extend(command);
         self.pieces += 1;
         self.put += put;
     }
 
-    fn copies(&mut self, count: u16, byte: u8) {
+    pub fn copies(&mut self, count: u16, byte: u8) {
         let [high, low] = count.to_be_bytes();
         self.piece(&[0x04, high, low, byte], usize::from(count));
     }
 
-    fn end(mut self) -> List {
+    pub fn end(mut self) -> List {
         self.bytes.push(0x00);
         self
     }

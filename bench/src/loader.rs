@@ -1,4 +1,4 @@
-//! The ways to load a list that are compared, behind one call.
+//! The ways to load a list, or two lists, that are compared, behind one call each.
 
 use crate::plain;
 
@@ -27,6 +27,14 @@ impl Loader {
         match self {
             Loader::Proved => midesk::load(memory, list).map_err(|refusal| refusal.number()),
             Loader::Plain => plain::load(memory, list),
+        }
+    }
+
+    /// Loads two lists, or gives the number of the refusal.
+    pub fn load_both(self, memory: &mut [u8], first: &[u8], second: &[u8], scratch: &mut [u8]) -> Result<(), u32> {
+        match self {
+            Loader::Proved => midesk::load_both(memory, first, second, scratch).map_err(|refusal| refusal.number()),
+            Loader::Plain => plain::load_both(memory, first, second, scratch),
         }
     }
 }

@@ -1,4 +1,5 @@
-//! Speed of the proved desk beside plain Rust, the model and simh's VAX, and of the proved load beside plain Rust.
+//! Speed of the proved desk beside plain Rust, the model and simh's VAX, and of the proved loads, of a list and of two,
+//! beside plain Rust.
 
 mod check;
 mod clock;
@@ -9,6 +10,7 @@ mod loader;
 mod loops;
 mod measure;
 mod options;
+mod pairs;
 mod plain;
 mod programs;
 mod proved;
@@ -16,6 +18,8 @@ mod proved;
 mod random;
 #[cfg(test)]
 mod random_lists;
+#[cfg(test)]
+mod random_pairs;
 mod simh;
 mod state;
 mod table;
@@ -26,14 +30,17 @@ use layout::Bench;
 use lists::Lists;
 use loader::Loader;
 use loops::{Loop, LENGTHS};
+use measure::Wanted;
 use options::Options;
+use pairs::Pairs;
 use std::process::ExitCode;
 
 fn main() -> ExitCode {
     let done = options::parse(std::env::args().skip(1)).and_then(|options| match options {
         Options::Commands { which, contender, count } => run_once(which, contender, count),
         Options::Loads { kind, loader, count } => load_once(kind, loader, count),
-        Options::Tables { loops, lists, rounds } => print_tables(&loops, &lists, rounds),
+        Options::Calls { kind, loader, count } => load_both_once(kind, loader, count),
+        Options::Tables { wanted, rounds } => print_tables(&wanted, rounds),
     });
     match done {
         Ok(()) => ExitCode::SUCCESS,
@@ -65,25 +72,29 @@ fn load_once(kind: Lists, loader: Loader, count: usize) -> Result<(), String> {
     Ok(())
 }
 
-fn print_tables(loops: &[Loop], lists: &[Lists], rounds: Option<usize>) -> Result<(), String> {
-    for which in loops {
+/// So many calls that load two lists, once, for a profiler.
+fn load_both_once(kind: Pairs, loader: Loader, count: usize) -> Result<(), String> {
+    let (mut memory, mut scratch) = (vec![0; pairs::LENGTH], vec![0; pairs::LENGTH]);
+    let (seconds, put) = measure::calls(&mut memory, &mut scratch, loader, &kind.pairs(), count)?;
+    let each = seconds / count as f64 * 1e3;
+    println!("{} {}: {count} calls, {put} bytes, {seconds:.3} s, {each:.2} ms each", loader.name(), kind.name());
+    Ok(())
+}
+
+fn print_tables(wanted: &Wanted, rounds: Option<usize>) -> Result<(), String> {
+    for which in &wanted.loops {
         for length in which.lengths() {
             check::check(*which, *length)?;
         }
     }
-    for kind in lists {
+    for kind in &wanted.lists {
         check::check_lists(*kind)?;
     }
-    let simulators = if loops.is_empty() { vec![] } else { simh::installed() };
-    let results = measure::measure(loops, lists, &simulators, rounds)?;
-    if !loops.is_empty() {
-        table::print(&results.loops, &simulators);
+    for kind in &wanted.pairs {
+        check::check_pairs(*kind)?;
     }
-    if !loops.is_empty() && !lists.is_empty() {
-        println!();
-    }
-    if !lists.is_empty() {
-        table::print_lists(&results.lists);
-    }
+    let simulators = if wanted.loops.is_empty() { vec![] } else { simh::installed() };
+    let results = measure::measure(wanted, &simulators, rounds)?;
+    table::print_all(&results, &simulators);
     Ok(())
 }

@@ -1,6 +1,6 @@
 //! Rounds of slices: in each round every desk runs every loop in each of its memories for a while, with the simulators
-//! between, and every loader loads the lists of every kind, so that what else the machine does falls on all alike.
-//! Ratios are taken within a round of a loop or a kind of list, which lasts less than a second.
+//! between, and every loader loads the lists and the pairs of lists of every kind, so that what else the machine does
+//! falls on all alike. Ratios are taken within a round of a loop or a kind, which lasts less than a second.
 
 use crate::clock;
 use crate::contender::{Contender, CONTENDERS};
@@ -8,6 +8,7 @@ use crate::layout::Bench;
 use crate::lists::{List, Lists};
 use crate::loader::{Loader, LOADERS};
 use crate::loops::{Loop, LENGTHS};
+use crate::pairs::{self, Pair, Pairs};
 use crate::simh::Vax;
 use std::time::{Duration, Instant};
 
@@ -21,7 +22,7 @@ const SLICES: usize = 3;
 /// CPU seconds of a slice of a simulator: longer, for its start-up is taken off. A round has one for each.
 const SLICE_SIMH: f64 = 0.15;
 
-/// Commands a second, or bytes put.
+/// Commands a second, or bytes put, or calls.
 type Speeds = Vec<f64>;
 
 /// What was measured of a loop.
@@ -40,10 +41,25 @@ pub struct MeasuredLists {
     pub loaders: [[Speeds; LOADERS.len()]; LENGTHS.len()],
 }
 
+/// What was measured of the pairs of a kind.
+pub struct MeasuredPairs {
+    pub kind: Pairs,
+    /// By loader and round.
+    pub loaders: [Speeds; LOADERS.len()],
+}
+
+/// What is to be measured.
+pub struct Wanted {
+    pub loops: Vec<Loop>,
+    pub lists: Vec<Lists>,
+    pub pairs: Vec<Pairs>,
+}
+
 /// All that was measured.
 pub struct Results {
     pub loops: Vec<Measured>,
     pub lists: Vec<MeasuredLists>,
+    pub pairs: Vec<MeasuredPairs>,
 }
 
 /// The places of so many contenders in the order of a part of a round: another one begins each time.
@@ -170,22 +186,78 @@ impl ListTrack {
     }
 }
 
+/// Pairs that are being measured.
+struct PairTrack {
+    pairs: Vec<Pair>,
+    memory: Vec<u8>,
+    scratch: Vec<u8>,
+    /// Calls of a slice, by loader.
+    counts: [usize; LOADERS.len()],
+    measured: MeasuredPairs,
+}
+
+/// So many calls, of the pairs in turn: the CPU seconds, and the bytes put.
+pub fn calls(
+    memory: &mut [u8],
+    scratch: &mut [u8],
+    loader: Loader,
+    pairs: &[Pair],
+    count: usize,
+) -> Result<(f64, usize), String> {
+    let loaded = || pairs.iter().cycle().take(count);
+    let before = clock::thread();
+    for [first, second] in loaded() {
+        let answer = loader.load_both(memory, &first.bytes, &second.bytes, scratch);
+        answer.map_err(|number| format!("{} refuses a pair by {number}", loader.name()))?;
+    }
+    let seconds = clock::thread() - before;
+    Ok((seconds, loaded().flatten().map(|list| list.put).sum()))
+}
+
+impl PairTrack {
+    fn new(kind: Pairs) -> Result<PairTrack, String> {
+        const FIRST: usize = 4;
+        let pairs = kind.pairs();
+        let (mut memory, mut scratch) = (vec![0; pairs::LENGTH], vec![0; pairs::LENGTH]);
+        let mut counts = [0; LOADERS.len()];
+        for (count, loader) in counts.iter_mut().zip(LOADERS) {
+            // First without looking at the clock, so that the pages are there.
+            calls(&mut memory, &mut scratch, loader, &pairs, FIRST)?;
+            let (seconds, _) = calls(&mut memory, &mut scratch, loader, &pairs, FIRST)?;
+            *count = (FIRST as f64 * SLICE / seconds) as usize + 1;
+        }
+        Ok(PairTrack { pairs, memory, scratch, counts, measured: MeasuredPairs { kind, loaders: Default::default() } })
+    }
+
+    fn round(&mut self, round: usize) -> Result<(), String> {
+        let mut sums = [0.0; LOADERS.len()];
+        for part in 0..SLICES {
+            for i in in_turn(LOADERS.len(), part, round) {
+                sums[i] += calls(&mut self.memory, &mut self.scratch, LOADERS[i], &self.pairs, self.counts[i])?.0;
+            }
+        }
+        for (i, speeds) in self.measured.loaders.iter_mut().enumerate() {
+            speeds.push((SLICES * self.counts[i]) as f64 / sums[i]);
+        }
+        Ok(())
+    }
+}
+
 /// So many rounds, or as many as there is time for.
-pub fn measure(
-    loops: &[Loop],
-    kinds: &[Lists],
-    simulators: &[&'static str],
-    rounds: Option<usize>,
-) -> Result<Results, String> {
+pub fn measure(wanted: &Wanted, simulators: &[&'static str], rounds: Option<usize>) -> Result<Results, String> {
     let begin = Instant::now();
     clock::stay();
     let mut tracks = vec![];
-    for which in loops {
+    for which in &wanted.loops {
         tracks.push(Track::new(*which, simulators)?);
     }
     let mut list_tracks = vec![];
-    for kind in kinds {
+    for kind in &wanted.lists {
         list_tracks.push(ListTrack::new(*kind)?);
+    }
+    let mut pair_tracks = vec![];
+    for kind in &wanted.pairs {
+        pair_tracks.push(PairTrack::new(*kind)?);
     }
     let mut round = 0;
     while rounds.map_or(round < LEAST_ROUNDS || begin.elapsed() < TIME, |rounds| round < rounds) {
@@ -195,10 +267,14 @@ pub fn measure(
         for track in &mut list_tracks {
             track.round(round)?;
         }
+        for track in &mut pair_tracks {
+            track.round(round)?;
+        }
         round += 1;
     }
     Ok(Results {
         loops: tracks.into_iter().map(|track| track.measured).collect(),
         lists: list_tracks.into_iter().map(|track| track.measured).collect(),
+        pairs: pair_tracks.into_iter().map(|track| track.measured).collect(),
     })
 }

@@ -16,7 +16,7 @@ fn address(rng: &mut Rng, length: u32) -> u32 {
 }
 
 /// A list for a memory of this length. Most put inside it.
-fn list(rng: &mut Rng, length: u32) -> Vec<u8> {
+pub fn list(rng: &mut Rng, length: u32) -> Vec<u8> {
     let pieces = if rng.chance(15) { 4090 + rng.below(14) } else { rng.below(12) };
     let mut list = vec![];
     for _ in 0..pieces {
@@ -42,7 +42,7 @@ fn list(rng: &mut Rng, length: u32) -> Vec<u8> {
 }
 
 /// Another byte somewhere, a cut, or more bytes at the end.
-fn damage(rng: &mut Rng, list: &mut Vec<u8>) {
+pub fn damage(rng: &mut Rng, list: &mut Vec<u8>) {
     let at = rng.below(list.len() as u32) as usize;
     match rng.below(3) {
         0 => list[at] = rng.below(8) as u8,

@@ -1,9 +1,10 @@
-//! The tables: the loops, then the load lists.
+//! The tables: the loops, then the load lists, then the pairs of them.
 
 use crate::contender::{Contender, CONTENDERS};
 use crate::loader::LOADERS;
 use crate::loops::LENGTHS;
-use crate::measure::{Measured, MeasuredLists};
+use crate::measure::{Measured, MeasuredLists, MeasuredPairs, Results};
+use crate::pairs;
 
 /// The value at a part of the way through the sorted values.
 fn quantile(values: &[f64], part: f64) -> f64 {
@@ -17,6 +18,12 @@ fn quantile(values: &[f64], part: f64) -> f64 {
 fn best(speeds: &[f64]) -> String {
     let best = speeds.iter().copied().fold(0.0, f64::max);
     format!("{:.1}", best / 1e6)
+}
+
+/// The milliseconds of a call at the best speed.
+fn shortest(speeds: &[f64]) -> String {
+    let best = speeds.iter().copied().fold(0.0, f64::max);
+    format!("{:.2}", 1e3 / best)
 }
 
 /// The median of the ratios within the rounds, with the quartiles.
@@ -94,6 +101,16 @@ const LIST_COLUMNS: usize = 2 + LOADERS.len() + 1;
 const LIST_HEAD: [(&str, usize); LIST_COLUMNS] =
     [("lists", 6), ("memory", 7), (LOADERS[0].name(), 8), (LOADERS[1].name(), 8), ("proved/plain", 16)];
 
+impl MeasuredPairs {
+    fn row(&self) -> [String; LIST_COLUMNS] {
+        let [proved, plain] = &self.loaders;
+        [self.kind.name().into(), size(pairs::LENGTH), shortest(proved), shortest(plain), ratio(proved, plain)]
+    }
+}
+
+const PAIR_HEAD: [(&str, usize); LIST_COLUMNS] =
+    [("pairs", 6), ("memory", 7), (LOADERS[0].name(), 8), (LOADERS[1].name(), 8), ("proved/plain", 16)];
+
 fn line<const COLUMNS: usize>(head: &[(&str, usize); COLUMNS], cells: &[String; COLUMNS]) {
     let cells: Vec<String> = cells.iter().zip(head).map(|(cell, (_, width))| format!("{cell:>width$}")).collect();
     println!("| {} |", cells.join(" | "));
@@ -104,7 +121,25 @@ fn head_lines<const COLUMNS: usize>(head: &[(&str, usize); COLUMNS]) {
     line(head, &head.map(|(_, width)| "-".repeat(width)));
 }
 
-pub fn print(loops: &[Measured], simulators: &[&str]) {
+/// The tables that have rows.
+pub fn print_all(results: &Results, simulators: &[&str]) {
+    let mut between = "";
+    if !results.loops.is_empty() {
+        print(&results.loops, simulators);
+        between = "\n";
+    }
+    if !results.lists.is_empty() {
+        print!("{between}");
+        print_lists(&results.lists);
+        between = "\n";
+    }
+    if !results.pairs.is_empty() {
+        print!("{between}");
+        print_pairs(&results.pairs);
+    }
+}
+
+fn print(loops: &[Measured], simulators: &[&str]) {
     let rounds = loops.first().map_or(0, |measured| measured.desks[0][0].len());
     println!("Million commands a second of CPU time, the best of {rounds} rounds.");
     println!("proved/..: the ratio of speeds within a round, median (quartiles); above 1 the proved desk is faster.");
@@ -140,7 +175,7 @@ fn print_growth(loops: &[Measured]) {
     }
 }
 
-pub fn print_lists(lists: &[MeasuredLists]) {
+fn print_lists(lists: &[MeasuredLists]) {
     let rounds = lists.first().map_or(0, |measured| measured.loaders[0][0].len());
     println!("Load lists: million bytes put a second of CPU time, the best of {rounds} rounds.");
     println!(
@@ -155,4 +190,19 @@ pub fn print_lists(lists: &[MeasuredLists]) {
     }
     println!();
     println!("plain: safe Rust that judges the list in one pass and puts it in another, as the proved load does.");
+}
+
+fn print_pairs(pairs: &[MeasuredPairs]) {
+    let rounds = pairs.first().map_or(0, |measured| measured.loaders[0].len());
+    println!("Two load lists together: milliseconds of CPU time a call, the best of {rounds} rounds.");
+    println!(
+        "proved/plain: the ratio of speeds within a round, median (quartiles); above 1 the proved load is faster."
+    );
+    println!();
+    head_lines(&PAIR_HEAD);
+    for measured in pairs {
+        line(&PAIR_HEAD, &measured.row());
+    }
+    println!();
+    println!("plain: safe Rust that finds a clash in two rounds over the scratch, as the proved load does.");
 }

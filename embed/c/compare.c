@@ -1,15 +1,15 @@
 /*
- * Replays sequences of calls, which the model's programs `sequences` and `lists` write, and compares every answer,
- * state and memory with the model's, bit for bit. Reads them from standard input; model/src/sequences/stream.rs
- * describes their form.
+ * Replays sequences of calls, which the model's programs `sequences`, `lists` and `pairs` write, and compares every
+ * answer, state, memory and scratch with the model's, bit for bit. Reads them from standard input;
+ * model/src/sequences/stream.rs describes their form.
  *
- * Memory, state, step count and load list each stand between pages that no access may touch: every sequence is played
- * twice, once with its first bytes right after such a page, once with its last bytes right before one. The bytes that
- * share their pages are filled and must stay as they are. So an access beside them is caught, in code without a
- * sanitizer too.
+ * Memory, state, step count, load lists and scratch each stand between pages that no access may touch: every sequence
+ * is played twice, once with its first bytes right after such a page, once with its last bytes right before one. The
+ * bytes that share their pages are filled and must stay as they are. So an access beside them is caught, in code
+ * without a sanitizer too. Two equal lists are lent as two the first time, as one and the same the second time.
  *
- * Besides it is checked that a refused call changes nothing, that a run is as many steps, that a load leaves its list
- * as it is, and that the helpers of midesk.h read and write the whole state.
+ * Besides it is checked that a refused call changes neither state nor memory, that a run is as many steps, that a load
+ * leaves its lists as they are, and that the helpers of midesk.h read and write the whole state.
  *
  * Exit status: 0 all equal, 1 something differs, 2 the input cannot be used.
  */
@@ -31,7 +31,8 @@
 #define FILL 0xA5
 #define SECONDS 20 /* a sequence that takes longer hangs */
 #define SHOWN 5    /* differences that are printed */
-#define LIST_BROKEN 17u /* the refusal of a list that is cut short or has bytes after its end */
+#define LIST_BROKEN 17u   /* the refusal of a list that is cut short or has bytes after its end */
+#define SCRATCH_SHORT 22u /* the refusal of a scratch that is shorter than the memory */
 
 /* ---- What is being done, for the messages. */
 
@@ -64,6 +65,10 @@ static struct buffer memory = {"memory", NULL, 0, 0, NULL, 0};
 static struct buffer state = {"state", NULL, 0, 0, NULL, 0};
 static struct buffer count = {"step count", NULL, 0, 0, NULL, 0};
 static struct buffer list = {"list", NULL, 0, 0, NULL, 0};
+static struct buffer second = {"second list", NULL, 0, 0, NULL, 0};
+static struct buffer scratch = {"scratch", NULL, 0, 0, NULL, 0};
+static struct buffer *const buffers[] = {&memory, &state, &count, &list, &second, &scratch};
+#define BUFFERS (sizeof buffers / sizeof buffers[0])
 
 static void reserve(struct buffer *b, size_t most)
 {
@@ -128,11 +133,11 @@ static void on_touch(int number, siginfo_t *info, void *context)
 {
     char where[128] = "an address of none of the buffers";
     const uint8_t *touched = (const uint8_t *)info->si_addr;
+    size_t i = 0;
     (void)number;
     (void)context;
-    if (!say_where(where, sizeof where, &memory, touched) && !say_where(where, sizeof where, &state, touched)
-        && !say_where(where, sizeof where, &count, touched))
-        say_where(where, sizeof where, &list, touched);
+    while (i < BUFFERS && !say_where(where, sizeof where, buffers[i], touched))
+        i++;
     strcat(where, " was touched");
     say_and_leave(where);
 }
@@ -145,8 +150,8 @@ static void on_alarm(int number)
 
 /* ---- The input. */
 
-/* The acts, by their numbers in the input: four calls, then what the caller does itself, then another call. */
-enum act { FRESH, STEP, RUN, REQUEST, PUT_STATE, PUT_MEMORY, PUT_LENGTH, LOAD, ACTS };
+/* The acts, by their numbers in the input: four calls, then what the caller does itself, then two calls more. */
+enum act { FRESH, STEP, RUN, REQUEST, PUT_STATE, PUT_MEMORY, PUT_LENGTH, LOAD, LOAD_BOTH, ACTS };
 
 static const char *const act_names[ACTS] = {"fresh",
                                             "step",
@@ -155,7 +160,8 @@ static const char *const act_names[ACTS] = {"fresh",
                                             "the caller's state",
                                             "the caller's memory",
                                             "the caller's length",
-                                            "load"};
+                                            "load",
+                                            "load_both"};
 
 struct reader {
     const uint8_t *at, *end;
@@ -203,7 +209,8 @@ static void change(struct reader *r, uint8_t *bytes, size_t len)
 
 static uint8_t *expected; /* the model's memory */
 static uint8_t *after;    /* the memory after a run */
-static unsigned long calls, loads, runs, run_steps, refused;
+static uint8_t *noted;    /* the scratch as it must be */
+static unsigned long calls, loads, both, runs, run_steps, refused;
 
 static int fail(const char *what, const char *detail)
 {
@@ -236,15 +243,10 @@ static int same_bytes(const char *what, const uint8_t *have, const uint8_t *want
 
 static int all_kept(void)
 {
-    const struct buffer *all[4];
     size_t i;
-    all[0] = &memory;
-    all[1] = &state;
-    all[2] = &count;
-    all[3] = &list;
-    for (i = 0; i < 4; i++)
-        if (!kept(all[i]))
-            return fail("a byte was written beside the ", all[i]->name);
+    for (i = 0; i < BUFFERS; i++)
+        if (!kept(buffers[i]))
+            return fail("a byte was written beside the ", buffers[i]->name);
     return 1;
 }
 
@@ -290,9 +292,26 @@ static int run_as_steps(uint64_t n, uint32_t answer, uint64_t made, const uint8_
         && same_bytes("memory of the steps against that of the run", memory.at, after, memory.len);
 }
 
-/* Makes one call and compares. Its arguments are read already; `bytes` are a load's list as it must stay. What is
- * expected of the call is read here. */
-static int call(struct reader *r, unsigned act, const uint32_t words[3], uint64_t n, const uint8_t *bytes)
+static uint32_t call_load_both(void)
+{
+    const int equal = list.len == second.len && (list.len == 0 || memcmp(list.at, second.at, list.len) == 0);
+    return midesk_load_both(memory.at, memory.len, list.at, list.len, equal && !first_time ? list.at : second.at,
+                            second.len, scratch.at, scratch.len);
+}
+
+/* What is expected of the scratch after a call is read here. */
+static void expect_scratch(struct reader *r)
+{
+    switch (*take(r, 1)) {
+    case 0: break;
+    case 1: memset(noted, 0, scratch.len); break;
+    default: bad_input("a scratch is neither as it was nor all zeros");
+    }
+}
+
+/* Makes one call and compares. Its arguments are read already; `bytes` are the lists of a load as they must stay. What
+ * is expected of the call is read here. */
+static int call(struct reader *r, unsigned act, const uint32_t words[3], uint64_t n, const uint8_t *const bytes[2])
 {
     uint8_t before[STATE];
     const uint8_t *want_state;
@@ -308,11 +327,14 @@ static int call(struct reader *r, unsigned act, const uint32_t words[3], uint64_
         made = get_count();
         break;
     case LOAD: answer = midesk_load(memory.at, memory.len, list.at, list.len); break;
+    case LOAD_BOTH: answer = call_load_both(); break;
     default: answer = midesk_request(state.at, words[0]); break;
     }
     want = act == STEP ? take_u64(r) : take_u32(r);
     if (act == RUN)
         want_made = take_u64(r);
+    if (act == LOAD_BOTH)
+        expect_scratch(r);
     want_state = take(r, STATE);
     is_refused = act == STEP ? midesk_kind(answer) == MIDESK_REFUSED : answer != MIDESK_OK;
     if (first_time) {
@@ -320,11 +342,15 @@ static int call(struct reader *r, unsigned act, const uint32_t words[3], uint64_
         refused += (unsigned long)is_refused;
         runs += act == RUN;
         loads += act == LOAD;
+        both += act == LOAD_BOTH;
     }
     ok = same_number("the answer", answer, want) && same_number("the step count", made, want_made)
         && (act == FRESH || !is_refused || same_bytes("state of a refused call", state.at, before, STATE))
         && same_bytes("state", state.at, want_state, STATE) && all_kept()
-        && (act != LOAD || same_bytes("the list after its load", list.at, bytes, list.len));
+        && ((act != LOAD && act != LOAD_BOTH) || same_bytes("the list after its load", list.at, bytes[0], list.len))
+        && (act != LOAD_BOTH
+            || (same_bytes("the second list after its load", second.at, bytes[1], second.len)
+                && same_bytes("the scratch", scratch.at, noted, scratch.len)));
     if (ok && (is_refused || act == FRESH || act == REQUEST))
         ok = same_bytes("memory of a call that leaves it alone", memory.at, expected, memory.len);
     if (ok && act == RUN)
@@ -378,16 +404,32 @@ static void change_memory(struct reader *r)
 }
 
 /* Lends a list of exactly its bytes from here on; gives them as they are in the input. */
-static const uint8_t *take_list(struct reader *r, int high)
+static const uint8_t *take_list(struct reader *r, struct buffer *b, int high)
 {
     size_t len = take_u32(r);
     const uint8_t *bytes = take(r, len);
     if (len > LONGEST_LIST)
         bad_input("a list is too long");
-    place(&list, len, high);
+    place(b, len, high);
     if (len != 0)
-        memcpy(list.at, bytes, len);
+        memcpy(b->at, bytes, len);
     return bytes;
+}
+
+/* Lends a scratch from here on. */
+static void take_scratch(struct reader *r, int high)
+{
+    size_t len = take_u32(r), i;
+    unsigned byte = *take(r, 1), add = *take(r, 1);
+    if (len > LONGEST)
+        bad_input("a scratch is too long");
+    place(&scratch, len, high);
+    for (i = 0; i < len; i++) {
+        noted[i] = (uint8_t)byte;
+        byte += add;
+    }
+    if (len != 0)
+        memcpy(scratch.at, noted, len);
 }
 
 static int play(struct reader r, int high)
@@ -403,13 +445,15 @@ static int play(struct reader r, int high)
     place(&state, STATE, high);
     place(&count, sizeof(uint64_t), high);
     place(&list, 0, high);
+    place(&second, 0, high);
+    place(&scratch, 0, high);
     memcpy(state.at, take(&r, STATE), STATE);
     acts = take_u32(&r);
     for (i = 0; i < acts; i++) {
         unsigned act = *take(&r, 1);
         uint32_t words[3] = {0, 0, 0};
         uint64_t n = 0;
-        const uint8_t *bytes = NULL;
+        const uint8_t *bytes[2] = {NULL, NULL};
         int k;
         now_act = i;
         now_call = act < ACTS ? act_names[act] : "?";
@@ -424,10 +468,15 @@ static int play(struct reader r, int high)
         case PUT_STATE: memcpy(state.at, take(&r, STATE), STATE); break;
         case PUT_MEMORY: change_memory(&r); break;
         case PUT_LENGTH: lend(take_u32(&r), high); break;
-        case LOAD: bytes = take_list(&r, high); break;
+        case LOAD: bytes[0] = take_list(&r, &list, high); break;
+        case LOAD_BOTH:
+            bytes[0] = take_list(&r, &list, high);
+            bytes[1] = take_list(&r, &second, high);
+            take_scratch(&r, high);
+            break;
         default: bad_input("an act of no kind");
         }
-        if ((act <= REQUEST || act == LOAD) && !call(&r, act, words, n, bytes))
+        if ((act <= REQUEST || act >= LOAD) && !call(&r, act, words, n, bytes))
             return 0;
         if (!helpers())
             return 0;
@@ -437,11 +486,11 @@ static int play(struct reader r, int high)
     return 1;
 }
 
-/* A null pointer with length 0: as a memory number 1, as a list number 17. */
+/* A null pointer with length 0: as a memory number 1, as a list number 17, as a scratch number 22. */
 static int null_memory(int high)
 {
     static const uint8_t none[512], end[1];
-    uint8_t zero[STATE], any[STATE], least[512] = {0};
+    uint8_t zero[STATE], any[STATE], least[512] = {0}, lent[512] = {0};
     uint64_t a;
     size_t i;
     int ok;
@@ -451,6 +500,8 @@ static int null_memory(int high)
     place(&count, sizeof(uint64_t), high);
     place(&memory, 0, high);
     place(&list, 0, high);
+    place(&second, 0, high);
+    place(&scratch, 0, high);
     for (i = 0; i < STATE; i++)
         any[i] = (uint8_t)(3 * i + 1);
     memset(zero, 0, STATE);
@@ -471,6 +522,15 @@ static int null_memory(int high)
         && same_number("load of it", midesk_load(least, sizeof least, NULL, 0), LIST_BROKEN)
         && same_number("load of it into it", midesk_load(NULL, 0, NULL, 0), MIDESK_REFUSED_LENGTH)
         && same_bytes("memory of those loads", least, none, sizeof least);
+    a = midesk_load_both(NULL, 0, end, 1, end, 1, lent, 512);
+    ok = ok && same_number("load_both into it", a, MIDESK_REFUSED_LENGTH);
+    a = midesk_load_both(NULL, 0, NULL, 0, NULL, 0, NULL, 0);
+    ok = ok && same_number("load_both of nothing else", a, MIDESK_REFUSED_LENGTH)
+        && same_number("load_both of it first", midesk_load_both(least, 512, NULL, 0, end, 1, lent, 512), LIST_BROKEN)
+        && same_number("load_both of it second", midesk_load_both(least, 512, end, 1, NULL, 0, lent, 512), LIST_BROKEN)
+        && same_number("load_both in it", midesk_load_both(least, 512, end, 1, end, 1, NULL, 0), SCRATCH_SHORT)
+        && same_bytes("memory of those calls", least, none, sizeof least)
+        && same_bytes("scratch of those calls", lent, none, sizeof lent);
     return ok && same_bytes("state", state.at, any, STATE) && all_kept();
 }
 
@@ -478,7 +538,7 @@ static int null_memory(int high)
 static int long_memory(void)
 {
     static const size_t lengths[] = {((size_t)1 << 32) + 1024, ((size_t)1 << 32) + 512, (size_t)1 << 32};
-    uint8_t fresh[STATE], zero[STATE], least[512] = {0};
+    uint8_t fresh[STATE], zero[STATE], least[512] = {0}, lent[512] = {0};
     const int how = MAP_PRIVATE | MAP_ANONYMOUS | MAP_NORESERVE;
     uint8_t *mem = (uint8_t *)mmap(NULL, lengths[0], PROT_READ | PROT_WRITE, how, -1, 0);
     size_t i;
@@ -504,10 +564,15 @@ static int long_memory(void)
         a = midesk_run(mem, lengths[i], state.at, 1, (uint64_t *)(void *)count.at);
         ok = ok && same_number("run", a, MIDESK_REFUSED_LENGTH) && same_number("steps of run", get_count(), 0)
             && same_bytes("state", state.at, fresh, STATE)
-            && same_number("load", midesk_load(mem, lengths[i], least, 1), MIDESK_REFUSED_LENGTH);
+            && same_number("load", midesk_load(mem, lengths[i], least, 1), MIDESK_REFUSED_LENGTH)
+            && same_number("load_both", midesk_load_both(mem, lengths[i], least, 1, least, 1, lent, sizeof lent),
+                           MIDESK_REFUSED_LENGTH);
     }
     /* A list whose first byte is its end, followed by 4 GiB. */
-    ok = ok && same_number("load of 4 GiB", midesk_load(least, sizeof least, mem, lengths[2] + 1), LIST_BROKEN);
+    i = lengths[2] + 1;
+    ok = ok && same_number("load of 4 GiB", midesk_load(least, 512, mem, i), LIST_BROKEN)
+        && same_number("4 GiB as first list", midesk_load_both(least, 512, mem, i, mem, 1, lent, 512), LIST_BROKEN)
+        && same_number("4 GiB as second list", midesk_load_both(least, 512, mem, 1, mem, i, lent, 512), LIST_BROKEN);
     munmap(mem, lengths[0]);
     return ok && all_kept();
 }
@@ -539,7 +604,8 @@ int main(void)
     }
     expected = (uint8_t *)malloc(LONGEST);
     after = (uint8_t *)malloc(LONGEST);
-    if (expected == NULL || after == NULL) {
+    noted = (uint8_t *)malloc(LONGEST);
+    if (expected == NULL || after == NULL || noted == NULL) {
         perror("compare: malloc");
         return 2;
     }
@@ -548,6 +614,8 @@ int main(void)
     reserve(&state, STATE);
     reserve(&count, sizeof(uint64_t));
     reserve(&list, LONGEST_LIST);
+    reserve(&second, LONGEST_LIST);
+    reserve(&scratch, LONGEST);
     catch_signals();
     strcpy(now_family, "lengths");
     for (high = 0; high < 2; high++)
@@ -589,11 +657,12 @@ int main(void)
         bad_input("it does not end with END.");
     if (getchar() != EOF)
         bad_input("it goes on after its end");
-    printf("%lu sequences, %lu calls at each guard, %lu of them loads, %lu refused, %lu runs also made as %lu steps: "
-           "%lu differ\n",
-           (unsigned long)sequences, calls, loads, refused, runs, run_steps, differ);
+    printf("%lu sequences, %lu calls at each guard, %lu of them loads, %lu loads of two lists, %lu refused, "
+           "%lu runs also made as %lu steps: %lu differ\n",
+           (unsigned long)sequences, calls, loads, both, refused, runs, run_steps, differ);
     free(bytes);
     free(expected);
     free(after);
+    free(noted);
     return differ == 0 ? 0 : 1;
 }

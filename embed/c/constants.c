@@ -20,7 +20,7 @@
 
 #define BLOCK 80   /* bytes of a control block */
 #define FILL 0xEE  /* bytes that no call has written */
-#define LONGEST 13 /* bytes of the longest code in a table */
+#define LONGEST 13 /* bytes of the longest code or list in a table */
 #define ROOM (2 * MIDESK_STATE_BYTES)
 #define COUNT(table) (sizeof(table) / sizeof(table)[0])
 
@@ -521,6 +521,69 @@ static void pieces(void)
     same("MIDESK_LIST_PIECES: the byte after the last", memory[MIDESK_LIST_PIECES], FILL);
 }
 
+/* Two lists each, in either order, one of which puts 31h at 0 and 32h at 1: their answer, what then stands from 0 on in
+   a memory of FILL, and what every byte of a scratch of FILL is. */
+static void pairs(void)
+{
+    static const uint8_t first[] = {MIDESK_LIST_BYTE, 0x31, MIDESK_LIST_BYTE, 0x32, MIDESK_LIST_END};
+    static const struct {
+        const char *name;
+        uint8_t second[LONGEST];
+        size_t n; /* bytes of the second list */
+        size_t scratch_len;
+        uint32_t answer;
+        uint8_t left[3], scratch;
+    } rows[] = {
+        /* 32h at 1 too, and 33h at 2, with a scratch that is as long as the memory, longer and too short. */
+        {"MIDESK_OK: two lists",
+         {MIDESK_LIST_MOVE, 0, 0, 0, 1, MIDESK_LIST_BYTE, 0x32, MIDESK_LIST_BYTE, 0x33, MIDESK_LIST_END}, 10, LENGTH,
+         MIDESK_OK, {0x31, 0x32, 0x33}, 0},
+        {"MIDESK_OK: two lists",
+         {MIDESK_LIST_MOVE, 0, 0, 0, 1, MIDESK_LIST_BYTE, 0x32, MIDESK_LIST_BYTE, 0x33, MIDESK_LIST_END}, 10,
+         LENGTH + 1, MIDESK_OK, {0x31, 0x32, 0x33}, 0},
+        {"MIDESK_REFUSED_SCRATCH",
+         {MIDESK_LIST_MOVE, 0, 0, 0, 1, MIDESK_LIST_BYTE, 0x32, MIDESK_LIST_BYTE, 0x33, MIDESK_LIST_END}, 10,
+         LENGTH - 1, MIDESK_REFUSED_SCRATCH, {FILL, FILL, FILL}, FILL},
+        /* 33h at 1. */
+        {"MIDESK_REFUSED_CLASH", {MIDESK_LIST_BYTE, 0x31, MIDESK_LIST_BYTE, 0x33, MIDESK_LIST_END}, 5, LENGTH,
+         MIDESK_REFUSED_CLASH, {FILL, FILL, FILL}, 0},
+        {"MIDESK_REFUSED_SCRATCH", {MIDESK_LIST_BYTE, 0x31, MIDESK_LIST_BYTE, 0x33, MIDESK_LIST_END}, 5, LENGTH - 1,
+         MIDESK_REFUSED_SCRATCH, {FILL, FILL, FILL}, FILL},
+        /* Refusals of one list. */
+        {"MIDESK_REFUSED_MALFORMED", {MIDESK_LIST_COPIES + 1, MIDESK_LIST_END}, 2, LENGTH, MIDESK_REFUSED_MALFORMED,
+         {FILL, FILL, FILL}, FILL},
+        {"MIDESK_REFUSED_OUTSIDE", {MIDESK_LIST_MOVE, 0, 0, LENGTH >> 8, 0, MIDESK_LIST_BYTE, 0x31, MIDESK_LIST_END}, 8,
+         LENGTH - 1, MIDESK_REFUSED_OUTSIDE, {FILL, FILL, FILL}, FILL},
+    };
+    static uint8_t left[LENGTH], scratch[LENGTH + 2], scratch_left[LENGTH + 2];
+    size_t i;
+    int exchanged;
+    for (i = 0; i < COUNT(rows); i++)
+        for (exchanged = 0; exchanged < 2; exchanged++) {
+            memset(memory, FILL, LENGTH);
+            memset(left, FILL, LENGTH);
+            memcpy(left, rows[i].left, sizeof rows[i].left);
+            memset(scratch, FILL, sizeof scratch);
+            memset(scratch_left, FILL, sizeof scratch_left);
+            memset(scratch_left, rows[i].scratch, rows[i].scratch_len);
+            same(rows[i].name,
+                 exchanged ? midesk_load_both(memory, LENGTH, rows[i].second, rows[i].n, first, sizeof first, scratch,
+                                              rows[i].scratch_len)
+                           : midesk_load_both(memory, LENGTH, first, sizeof first, rows[i].second, rows[i].n, scratch,
+                                              rows[i].scratch_len),
+                 rows[i].answer);
+            same(rows[i].name, memcmp(memory, left, LENGTH) == 0, 1);
+            same(rows[i].name, memcmp(scratch, scratch_left, sizeof scratch) == 0, 1);
+        }
+    same("MIDESK_REFUSED_LENGTH",
+         midesk_load_both(memory, LENGTH - 1, first, sizeof first, first, sizeof first, scratch, LENGTH),
+         MIDESK_REFUSED_LENGTH);
+    same("no memory, no lists", midesk_load_both(NULL, 0, NULL, 0, NULL, 0, NULL, 0), MIDESK_REFUSED_LENGTH);
+    same("no lists", midesk_load_both(memory, LENGTH, NULL, 0, NULL, 0, NULL, 0), MIDESK_REFUSED_MALFORMED);
+    same("no scratch", midesk_load_both(memory, LENGTH, first, sizeof first, first, sizeof first, NULL, 0),
+         MIDESK_REFUSED_SCRATCH);
+}
+
 int main(void)
 {
     version();
@@ -541,6 +604,7 @@ int main(void)
     run();
     lists();
     pieces();
+    pairs();
     if (!wrong)
         printf("version %d.%d.%d: the constants are those of the calls\n", MIDESK_VERSION_MAJOR, MIDESK_VERSION_MINOR,
                MIDESK_VERSION_PATCH);

@@ -23,17 +23,21 @@
  *
  * Link it with target/staticlib/libmidesk.a of the repository or, where embed/install has put it elsewhere, with what
  * `pkg-config --cflags --libs midesk` says. embed/c/user_mode.c shows user mode, a map and an interrupt, embed/c/load.c
- * a program that arrives as a load list.
+ * a program that arrives as a load list, embed/c/load_both.c one that arrives as two.
  *
  * What you must ensure, since no call can check it:
  *   - mem points to len bytes that may be read and, except for midesk_fresh, written; where len is 0, any pointer will
  *     do, a null pointer too;
  *   - state points to 90 bytes that may be read and written, steps to a uint64_t that may be written;
- *   - list points to list_len bytes that may be read; where list_len is 0, any pointer will do here too;
- *   - these do not overlap, and no other thread uses them during the call (a list may be read by others).
- * Nothing else: every content of memory, state and list, every length and every number is answered. What cannot be used
- * is refused by a number, 1 to 7 or 17 to 19. A refused call changes neither state nor memory, with one exception:
- * midesk_fresh, when refused, replaces the state by the all-zero desk stopped with that number.
+ *   - list points to list_len bytes that may be read, and so first and second to first_len and second_len bytes; where
+ *     a length is 0, any pointer will do here too;
+ *   - scratch points to scratch_len bytes that may be read and written; where scratch_len is 0, any pointer will do;
+ *   - these do not overlap, except that first and second may, or be the same; and no other thread uses them during the
+ *     call (a list may be read by others).
+ * Nothing else: every content of memory, state, lists and scratch, every length and every number is answered. What
+ * cannot be used is refused by a number: 1 to 7, 17 to 19, 22 or 23. A refused call changes neither state nor memory,
+ * with one exception: midesk_fresh, when refused, replaces the state by the all-zero desk stopped with that number. Of
+ * the refusals 23 alone changes the scratch: it is all zeros then.
  *
  * The inline functions at the end only read and write bytes; they check nothing, and each says what it needs.
  *
@@ -57,7 +61,7 @@ extern "C" {
  * comparisons in #if too: 65536 x MAJOR + 256 x MINOR + PATCH.
  */
 #define MIDESK_VERSION_MAJOR 2
-#define MIDESK_VERSION_MINOR 0
+#define MIDESK_VERSION_MINOR 1
 #define MIDESK_VERSION_PATCH 0
 #define MIDESK_VERSION (MIDESK_VERSION_MAJOR * 65536u + MIDESK_VERSION_MINOR * 256u + MIDESK_VERSION_PATCH)
 
@@ -139,7 +143,7 @@ extern "C" {
 
 #define MIDESK_LIST_PIECES 4096 /* pieces that a list may have: its 02h, 03h and 04h */
 
-/* Answer of midesk_fresh, midesk_run, midesk_request and midesk_load: 0 where carried out, else why it was refused. */
+/* Answer of all calls but midesk_step and midesk_version: 0 where carried out, else why it was refused. */
 #define MIDESK_OK 0u
 #define MIDESK_REFUSED_LENGTH 1u        /* the memory length is not allowed */
 #define MIDESK_REFUSED_SYSTEM_BLOCK 2u  /* the system block's address is no multiple of 4, or the block does not fit */
@@ -152,6 +156,8 @@ extern "C" {
 #define MIDESK_REFUSED_MALFORMED 17u    /* a list has an unknown command, is cut short, or has bytes after its end */
 #define MIDESK_REFUSED_PIECES 18u       /* a list has more than MIDESK_LIST_PIECES pieces */
 #define MIDESK_REFUSED_OUTSIDE 19u      /* a list puts a byte outside memory */
+#define MIDESK_REFUSED_SCRATCH 22u      /* the scratch is shorter than the memory */
+#define MIDESK_REFUSED_CLASH 23u        /* two lists put a byte at one address, and their last bytes there differ */
 
 /* The kinds of midesk_step's answer: midesk_kind(answer). */
 #define MIDESK_DONE 0u    /* a command was carried out; the number is 0 */
@@ -250,6 +256,33 @@ uint32_t midesk_request(uint8_t state[MIDESK_STATE_BYTES], uint32_t level);
  * most 4096 x 65535 of them, and not with len.
  */
 uint32_t midesk_load(uint8_t *mem, size_t len, const uint8_t *list, size_t list_len);
+
+/*
+ * Loads two lists into memory together. No desk is asked. Each list is one of midesk_load: its place is 0 at first, and
+ * it may have MIDESK_LIST_PIECES pieces of its own. Afterwards memory holds at each address the last byte that either
+ * list puts there, and elsewhere the old byte. Where both put a byte at one address, their last bytes there must be
+ * equal: else the lists clash. Only the last bytes count: what a list puts and then replaces itself is no clash. So two
+ * lists that load leave the same memory when they are exchanged.
+ *
+ * scratch is lent to find a clash before memory is changed: it must be as long as the memory, or longer. What it holds
+ * before does not matter. After loading, and after a clash, all its scratch_len bytes are 0, those past len too; after
+ * every other refusal it is as it was.
+ *
+ * Answers MIDESK_OK or the first of these that is so:
+ *
+ *     MIDESK_REFUSED_LENGTH     len is not allowed
+ *     MIDESK_REFUSED_MALFORMED, MIDESK_REFUSED_PIECES, MIDESK_REFUSED_OUTSIDE
+ *                               of the first list, as midesk_load has them and in its order
+ *     the same three            of the second list
+ *     MIDESK_REFUSED_SCRATCH    scratch_len is below len
+ *     MIDESK_REFUSED_CLASH      an address at which both lists put a byte, and their last bytes there differ
+ *
+ * When refused, memory is as it was. The lists are only read, several times: they may be the same bytes or overlap each
+ * other, but neither may lie in mem or scratch, and mem and scratch must not overlap. The time grows with len,
+ * scratch_len, the lengths of the lists and the bytes put, at most 4096 x 65535 by each list.
+ */
+uint32_t midesk_load_both(uint8_t *mem, size_t len, const uint8_t *first, size_t first_len, const uint8_t *second,
+                          size_t second_len, uint8_t *scratch, size_t scratch_len);
 
 /* The version of the archive, as MIDESK_VERSION has it: equal to it where header and archive belong together. */
 uint32_t midesk_version(void);

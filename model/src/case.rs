@@ -1,7 +1,9 @@
 //! A case: a memory image, a start state, calls, and what comes out.
 
 use crate::desk;
+use crate::joint;
 use crate::load;
+use crate::pair::{After, LoadBoth, Pair};
 use crate::state::*;
 
 #[derive(Clone, PartialEq, Eq, Debug)]
@@ -17,6 +19,8 @@ pub enum Call {
     },
     /// Loads a list into the case's memory; the state takes no part.
     Load(Vec<u8>),
+    /// Loads two lists together into the case's memory; the state takes no part.
+    LoadBoth(Pair),
 }
 
 /// Bytes `first`, `first + add`, ... (modulo 256) from an address on.
@@ -37,13 +41,15 @@ pub struct Case {
     pub calls: Vec<Call>,
 }
 
-/// What one call gave. `event` is `Plain` and `count` 0 where they don't apply.
+/// What one call gave. `event` is `Plain`, `count` 0 and `scratch` `AsBefore` where they don't
+/// apply.
 #[derive(Clone, Copy, PartialEq, Eq, Debug)]
 pub struct Outcome {
     pub refusal: u32,
     pub state: State,
     pub event: Event,
     pub count: u32,
+    pub scratch: After,
 }
 
 #[derive(Clone, PartialEq, Eq, Debug)]
@@ -52,7 +58,7 @@ pub struct Expected {
     pub memory: Vec<u8>,
 }
 
-/// The five calls of the model or of a wrong copy of it.
+/// The six calls of the model or of a wrong copy of it.
 #[derive(Clone, Copy)]
 pub struct Desk {
     pub fresh: fn(u64, u32, u32, u32) -> Answered,
@@ -60,35 +66,41 @@ pub struct Desk {
     pub run: fn(&State, &mut [u8], u64) -> Ran,
     pub request: fn(&State, u32) -> Answered,
     pub load: fn(&mut [u8], &[u8]) -> u32,
+    pub load_both: LoadBoth,
 }
 
-pub const MODEL: Desk =
-    Desk { fresh: desk::fresh, step: desk::step, run: desk::run, request: desk::request, load: load::load };
+pub const MODEL: Desk = Desk {
+    fresh: desk::fresh,
+    step: desk::step,
+    run: desk::run,
+    request: desk::request,
+    load: load::load,
+    load_both: joint::load_both,
+};
 
 impl Desk {
     /// Makes one call.
     pub fn make(&self, call: &Call, state: &State, memory: &mut [u8]) -> Outcome {
-        let answered =
-            |answer: Answered| Outcome { refusal: answer.refusal, state: answer.state, event: Event::Plain, count: 0 };
+        let plain = Outcome { refusal: 0, state: *state, event: Event::Plain, count: 0, scratch: After::AsBefore };
+        let answered = |answer: Answered| Outcome { refusal: answer.refusal, state: answer.state, ..plain };
         match call {
             Call::Step => {
                 let answer = (self.step)(state, memory);
-                Outcome { refusal: answer.refusal, state: answer.state, event: answer.event, count: 0 }
+                Outcome { refusal: answer.refusal, state: answer.state, event: answer.event, ..plain }
             }
             Call::Run(n) => {
                 let answer = (self.run)(state, memory, u64::from(*n));
-                Outcome {
-                    refusal: answer.refusal,
-                    state: answer.state,
-                    event: Event::Plain,
-                    count: answer.count as u32,
-                }
+                Outcome { refusal: answer.refusal, state: answer.state, count: answer.count as u32, ..plain }
             }
             Call::Request(level) => answered((self.request)(state, *level)),
             Call::Fresh { system, control, start } => {
                 answered((self.fresh)(memory.len() as u64, *system, *control, *start))
             }
-            Call::Load(list) => answered(Answered { refusal: (self.load)(memory, list), state: *state }),
+            Call::Load(list) => Outcome { refusal: (self.load)(memory, list), ..plain },
+            Call::LoadBoth(pair) => {
+                let (refusal, scratch) = pair.load(self.load_both, memory);
+                Outcome { refusal, scratch, ..plain }
+            }
         }
     }
 }

@@ -5,8 +5,10 @@ use crate::checks::{self, Broken};
 use crate::code::Role;
 use crate::desk;
 use crate::entry;
+use crate::joint_table::Joint;
 use crate::list_table::Lists;
 use crate::notes::{Note, Notes};
+use crate::pair::Pair;
 use crate::shift_table::Shifts;
 use crate::state::*;
 use crate::work::Part;
@@ -48,6 +50,7 @@ pub struct Cover {
     pub runs: Counts<&'static str>,
     pub requests: Counts<(u32, &'static str)>,
     pub lists: Lists,
+    pub joint: Joint,
 }
 
 pub fn add<K: Ord>(counts: &mut Counts<K>, key: K) {
@@ -60,6 +63,8 @@ struct Loads {
     put: Vec<bool>,
     /// Whether the last one loaded; nothing again after a run.
     last: Option<bool>,
+    /// Whether it was one of two lists.
+    two: bool,
 }
 
 fn kind(call: &Call) -> &'static str {
@@ -69,6 +74,7 @@ fn kind(call: &Call) -> &'static str {
         Call::Request(_) => "request",
         Call::Fresh { .. } => "fresh",
         Call::Load(_) => "load",
+        Call::LoadBoth(_) => "load both",
     }
 }
 
@@ -169,13 +175,14 @@ impl Cover {
     pub fn play(&mut self, case: &Case) {
         let mut memory = case.image.clone();
         let mut state = case.start;
-        let mut loads = Loads { put: vec![false; memory.len()], last: None };
+        let mut loads = Loads { put: vec![false; memory.len()], last: None, two: false };
         for call in &case.calls {
             let judged = match call {
                 Call::Step | Call::Run(_) => checks::of_step(&state, &memory),
                 Call::Request(level) => checks::of_request(&state, *level),
                 Call::Fresh { system, control, .. } => checks::of_fresh(memory.len() as u64, *system, *control),
                 Call::Load(list) => self.load(&memory, list, &mut loads),
+                Call::LoadBoth(pair) => self.load_both(&memory, pair, &mut loads),
             };
             match (judged, call) {
                 (Err(broken), _) => {
@@ -188,10 +195,12 @@ impl Cover {
                 (Ok(()), Call::Step) => state = self.step(&state, &mut memory).0,
                 (Ok(()), Call::Run(n)) => {
                     state = self.run(*n, &state, &mut memory);
-                    match loads.last.take() {
-                        Some(true) => add(&mut self.lists.calls, "a run after a load"),
-                        Some(false) => add(&mut self.lists.calls, "a run after a refused load"),
-                        None => {}
+                    match (loads.last.take(), loads.two) {
+                        (Some(true), false) => add(&mut self.lists.calls, "a run after a load"),
+                        (Some(false), false) => add(&mut self.lists.calls, "a run after a refused load"),
+                        (Some(true), true) => add(&mut self.joint.calls, "a run after a pair"),
+                        (Some(false), true) => add(&mut self.joint.calls, "a run after a refused pair"),
+                        (None, _) => {}
                     }
                 }
                 (Ok(()), Call::Request(level)) => {
@@ -203,20 +212,37 @@ impl Cover {
                     add(&mut self.requests, (*level, fate));
                     state = make(call, &state, &mut memory).state;
                 }
-                (Ok(()), Call::Fresh { .. } | Call::Load(_)) => state = make(call, &state, &mut memory).state,
+                (Ok(()), Call::Fresh { .. } | Call::Load(_) | Call::LoadBoth(_)) => {
+                    state = make(call, &state, &mut memory).state
+                }
             }
         }
     }
 
     /// Counts a load and judges it.
     fn load(&mut self, memory: &[u8], list: &[u8], loads: &mut Loads) -> Result<(), Broken> {
-        match loads.last {
-            Some(true) => add(&mut self.lists.calls, "a load after a load"),
-            Some(false) => add(&mut self.lists.calls, "a load after a refused load"),
-            None => {}
+        match (loads.last, loads.two) {
+            (Some(true), false) => add(&mut self.lists.calls, "a load after a load"),
+            (Some(false), false) => add(&mut self.lists.calls, "a load after a refused load"),
+            (Some(true), true) => add(&mut self.joint.calls, "a load after a pair"),
+            (Some(false), true) => add(&mut self.joint.calls, "a load after a refused pair"),
+            (None, _) => {}
         }
         let judged = self.lists.load(memory, list, &mut loads.put);
-        loads.last = Some(judged.is_ok());
+        (loads.last, loads.two) = (Some(judged.is_ok()), false);
+        judged
+    }
+
+    /// Counts a joint load and judges it.
+    fn load_both(&mut self, memory: &[u8], pair: &Pair, loads: &mut Loads) -> Result<(), Broken> {
+        match (loads.last, loads.two) {
+            (Some(true), false) => add(&mut self.joint.calls, "a pair after a load"),
+            (Some(true), true) => add(&mut self.joint.calls, "a pair after a pair"),
+            (Some(false), true) => add(&mut self.joint.calls, "a pair after a refused pair"),
+            _ => {}
+        }
+        let judged = self.joint.pair(memory, pair, &mut loads.put);
+        (loads.last, loads.two) = (Some(judged.is_ok()), true);
         judged
     }
 

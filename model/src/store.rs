@@ -21,10 +21,15 @@
 //!   words     start state, as changes against words that are all zero
 //!   u16       number of calls
 //!   the calls:
-//!     u8        kind: 0 step, 1 run, 2 level request, 3 fresh desk, 4 load
+//!     u8        kind: 0 step, 1 run, 2 level request, 3 fresh desk, 4 load,
+//!               5 load both
 //!     arguments: step none; run u32 n; request u32 level; fresh u32 system
 //!               block, u32 control block, u32 start (its memory length is
-//!               the case's); load u32 n, then the n bytes of the list
+//!               the case's); load u32 n, then the n bytes of the list; load
+//!               both u32 n, then the n bytes of the first list, the same for
+//!               the second, then the scratch before the call: u32 length (at
+//!               most 65,536 if the memory has at most that), u8 first, u8 add;
+//!               its byte i is (first + i × add) modulo 256
 //!     u8        refusal, 0 for none
 //!     step only:
 //!       u8      event: 0 nothing special (or refused), 1 entry, 2 stop
@@ -33,8 +38,11 @@
 //!               before the call and 0
 //!       stop:   u32 number
 //!     run only: u32 count
+//!     load both only: u8 scratch afterwards: 0 as before the call, 1 all
+//!               zeros; where it was all zeros before, or has no bytes, 1 if
+//!               the refusal is 0 or 23, else 0
 //!     words     state after the call, as changes against the one before
-//!               (a load changes none)
+//!               (loads change none)
 //!   u16       number of changed runs of the memory after the last call,
 //!             against the image:
 //!     u32       address
@@ -46,6 +54,7 @@
 //! `words.rs`.
 
 use crate::case::*;
+use crate::pair::*;
 use crate::state::*;
 use crate::words::*;
 
@@ -61,6 +70,11 @@ fn u16_to(out: &mut Vec<u8>, value: usize) {
 
 fn u32_to(out: &mut Vec<u8>, value: u32) {
     out.extend(value.to_be_bytes());
+}
+
+fn list_to(out: &mut Vec<u8>, list: &[u8]) {
+    u32_to(out, list.len() as u32);
+    out.extend(list);
 }
 
 fn changes_to(out: &mut Vec<u8>, old: &[u32], new: &[u32]) {
@@ -157,8 +171,15 @@ fn case_to(out: &mut Vec<u8>, case: &Case, expected: &Expected) {
             }
             Call::Load(list) => {
                 out.push(4);
-                u32_to(out, list.len() as u32);
-                out.extend(list);
+                list_to(out, list);
+            }
+            Call::LoadBoth(Pair { first, second, scratch }) => {
+                assert!(scratch.length as usize <= SMALL.max(case.image.len()));
+                out.push(5);
+                list_to(out, first);
+                list_to(out, second);
+                u32_to(out, scratch.length);
+                out.extend([scratch.first, scratch.add]);
             }
         }
         out.push(outcome.refusal as u8);
@@ -177,6 +198,7 @@ fn case_to(out: &mut Vec<u8>, case: &Case, expected: &Expected) {
                 }
             },
             Call::Run(_) => u32_to(out, outcome.count),
+            Call::LoadBoth(_) => out.push(outcome.scratch.number()),
             _ => {}
         }
         changes_to(out, &words(&before), &words(&outcome.state));
@@ -222,6 +244,11 @@ impl Reader<'_> {
 
     fn number(&mut self, count: usize) -> u32 {
         self.take(count).iter().fold(0, |value, byte| value << 8 | u32::from(*byte))
+    }
+
+    fn list(&mut self) -> Vec<u8> {
+        let length = self.number(4) as usize;
+        self.take(length).to_vec()
     }
 
     fn changes(&mut self, words: &mut [u32]) {
@@ -274,15 +301,19 @@ impl Reader<'_> {
             1 => Call::Run(self.number(4)),
             2 => Call::Request(self.number(4)),
             3 => Call::Fresh { system: self.number(4), control: self.number(4), start: self.number(4) },
-            4 => {
-                let length = self.number(4) as usize;
-                Call::Load(self.take(length).to_vec())
+            4 => Call::Load(self.list()),
+            5 => {
+                let [first, second] = [self.list(), self.list()];
+                let scratch =
+                    Scratch { length: self.number(4), first: self.number(1) as u8, add: self.number(1) as u8 };
+                Call::LoadBoth(Pair { first, second, scratch })
             }
             other => panic!("a call of kind {other}"),
         };
         let refusal = self.number(1);
         let mut event = Event::Plain;
         let mut count = 0;
+        let mut scratch = After::AsBefore;
         match call {
             Call::Step => match self.number(1) {
                 0 => {}
@@ -299,10 +330,11 @@ impl Reader<'_> {
                 _ => event = Event::Stop(self.number(4)),
             },
             Call::Run(_) => count = self.number(4),
+            Call::LoadBoth(_) => scratch = After::of_number(self.number(1)),
             _ => {}
         }
         self.changes(state);
-        (call, Outcome { refusal, state: state_of(state), event, count })
+        (call, Outcome { refusal, state: state_of(state), event, count, scratch })
     }
 }
 

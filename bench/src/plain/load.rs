@@ -5,12 +5,12 @@ use super::entry::allowed;
 const MOST_PIECES: usize = 4096;
 
 /// Numbers of refusals.
-const LENGTH: u32 = 1;
+pub const LENGTH: u32 = 1;
 const MALFORMED: u32 = 17;
 const PIECES: u32 = 18;
 const OUTSIDE: u32 = 19;
 
-enum Command {
+pub enum Command {
     End,
     Move(usize),
     Byte(u8),
@@ -20,7 +20,7 @@ enum Command {
 
 /// The first command of a list and what follows it; `None` where it is unknown or cut short.
 #[inline]
-fn next(list: &[u8]) -> Option<(Command, &[u8])> {
+pub fn next(list: &[u8]) -> Option<(Command, &[u8])> {
     Some(match list {
         [0x00, rest @ ..] => (Command::End, rest),
         [0x01, a, b, c, d, rest @ ..] => (Command::Move(u32::from_be_bytes([*a, *b, *c, *d]) as usize), rest),
@@ -43,7 +43,7 @@ pub fn load(memory: &mut [u8], list: &[u8]) -> Result<(), u32> {
 }
 
 /// The refusals of a list for a memory of this length.
-fn judge(length: usize, mut list: &[u8]) -> Result<(), u32> {
+pub fn judge(length: usize, mut list: &[u8]) -> Result<(), u32> {
     let (mut place, mut pieces, mut inside) = (0, 0, true);
     loop {
         let (command, rest) = next(list).ok_or(MALFORMED)?;
@@ -75,7 +75,7 @@ fn judge(length: usize, mut list: &[u8]) -> Result<(), u32> {
 }
 
 /// Puts the bytes of a list that is not refused.
-fn put(memory: &mut [u8], mut list: &[u8]) {
+pub fn put(memory: &mut [u8], mut list: &[u8]) {
     let mut place = 0;
     while let Some((command, rest)) = next(list) {
         list = rest;

@@ -11,7 +11,7 @@
 //! - the nine forms with their rules (14), R15 inside an operand, flags;
 //! - the map and alarms 8 to 13, the undoing of a command that alarms;
 //! - refusals 1 to 5 and 7, interrupts, kernel entry and stop 16, the step count;
-//! - load lists with their refusals (`load.rs`).
+//! - load lists with their refusals (`load.rs`), and two of them together (`load_both.rs`).
 //!
 //! Not covered: every other command (it gives alarm 12, as an unknown byte does), the system call and RESUME among them;
 //! the calls for a fresh desk and for a level.
@@ -21,6 +21,7 @@ mod arithmetic;
 mod command;
 mod entry;
 mod load;
+mod load_both;
 mod memory;
 mod operand;
 mod stack;
@@ -30,6 +31,7 @@ use crate::state::{State, KERNEL, RUNNING};
 #[cfg(test)]
 pub use command::covers;
 pub use load::load;
+pub use load_both::load_both;
 
 /// An alarm's number and argument.
 #[derive(Clone, Copy, PartialEq, Eq, Debug)]

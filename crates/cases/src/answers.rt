@@ -169,6 +169,43 @@ pub fn check_load(s: &[u8], at: usize, before: Words, number: u32) -> Checked {
     check_state(s, past(s, at, 1), before, what, desk_of(before))
 }
 
+// Whether the scratch is the one before the call, where the u8 at a position is 0; else whether it is
+// zeros.
+fn scratch_difference(
+    s: &[u8],
+    at: usize,
+    scratch: &[u8],
+    before: &[u8],
+    zeros: &[u8],
+) -> Difference {
+    if byte_at(s, at) == 0 {
+        return unless_same(scratch, before);
+    }
+    unless_same(scratch, zeros)
+}
+
+fn unless_same(scratch: &[u8], expected: &[u8]) -> Difference {
+    if same_bytes(scratch, expected) {
+        return Difference::Nothing;
+    }
+    Difference::Scratch
+}
+
+// The number that joint loading answers: u8 refusal, u8 for the scratch, and the state, which it leaves.
+pub fn check_both(
+    s: &[u8],
+    at: usize,
+    words: Words,
+    number: u32,
+    scratch: &[u8],
+    before: &[u8],
+    zeros: &[u8],
+) -> Checked {
+    let refusal = unless_equal(number, wide(byte_at(s, at)), Difference::Refusal);
+    let left = scratch_difference(s, past(s, at, 1), scratch, before, zeros);
+    check_state(s, past(s, at, 2), words, refusal.or(left), desk_of(words))
+}
+
 // The reply to a run: u8 refusal, u32 count, and the state.
 pub fn check_run(s: &[u8], at: usize, before: Words, reply: RunReply) -> Checked {
     let answer = reply.answer;

@@ -12,6 +12,8 @@ pub enum Difference {
     Count,
     State,
     Memory,
+    // The scratch that joint loading leaves.
+    Scratch,
     // The fields do not fill the case's bytes.
     Format,
 }

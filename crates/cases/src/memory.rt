@@ -57,6 +57,13 @@ fn store_fill(mem: &mut [u8], s: &[u8], at: usize) -> usize {
     store_run(mem, s, body)
 }
 
+// The whole of a lent buffer: u8 first, u8 add. Answers the position after them.
+pub fn fill_scratch(scratch: &mut [u8], s: &[u8], at: usize) -> usize {
+    let n = scratch.len();
+    put_ramp(scratch, 0, n, byte_at(s, at), byte_at(s, past(s, at, 1)));
+    past(s, at, 2)
+}
+
 // The image: u16 number of fills, and the fills in order. Answers the position after them.
 pub fn fill(mem: &mut [u8], s: &[u8], from: usize) -> usize {
     let mut left = half_at(s, from);

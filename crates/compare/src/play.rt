@@ -1,5 +1,6 @@
 // A case, played on the desk.
 use cases::answers::Checked;
+use cases::answers::check_both;
 use cases::answers::check_load;
 use cases::answers::check_memory;
 use cases::answers::check_reply;
@@ -13,6 +14,7 @@ use cases::fields::part;
 use cases::fields::past;
 use cases::fields::word_at;
 use cases::memory::fill;
+use cases::memory::fill_scratch;
 use cases::snapshot::Words;
 use cases::snapshot::changed;
 use cases::snapshot::desk_of;
@@ -71,6 +73,74 @@ fn load_list(s: &[u8], at: usize, before: Words, mem: &mut [u8]) -> Checked {
     check_load(s, past(s, from, n), before, answer.number())
 }
 
+// u8 first, u8 add: the scratch before the call. It holds zeros, as before and zeros do.
+fn load_with(
+    s: &[u8],
+    at: usize,
+    words: Words,
+    mem: &mut [u8],
+    first: &[u8],
+    second: &[u8],
+    scratch: &mut [u8],
+    before: &mut [u8],
+    zeros: &[u8],
+) -> Checked {
+    let end = fill_scratch(scratch, s, at);
+    fill_scratch(before, s, at);
+    let answer = joint::load_both(mem, first, second, scratch);
+    check_both(s, end, words, answer.number(), scratch, before, zeros)
+}
+
+// u32 length of the scratch, and its bytes; there is room for 65,536.
+fn load_lists(
+    s: &[u8],
+    at: usize,
+    before: Words,
+    mem: &mut [u8],
+    first: &[u8],
+    second: &[u8],
+) -> Checked {
+    let n = word_at(s, at) as usize;
+    if 65536 < n {
+        return Checked {
+            what: Difference::Format,
+            words: before,
+            at,
+        };
+    }
+    let mut scratch = io::large_buffer();
+    let mut same = io::large_buffer();
+    let zeros = io::large_buffer();
+    load_with(
+        s,
+        past(s, at, 4),
+        before,
+        mem,
+        first,
+        second,
+        &mut scratch[..n],
+        &mut same[..n],
+        &zeros[..n],
+    )
+}
+
+// u32 length, and as many bytes, twice: two load lists.
+fn load_both(s: &[u8], at: usize, before: Words, mem: &mut [u8]) -> Checked {
+    let n = word_at(s, at) as usize;
+    let from = past(s, at, 4);
+    let behind = past(s, from, n);
+    let m = word_at(s, behind) as usize;
+    let next = past(s, behind, 4);
+    load_lists(
+        s,
+        past(s, next, m),
+        before,
+        mem,
+        part(s, from, n),
+        part(s, next, m),
+    )
+}
+
 // u8 kind, and the fields of that kind.
 fn check_call(s: &[u8], at: usize, before: Words, mem: &mut [u8]) -> Checked {
     let kind = byte_at(s, at);
@@ -81,6 +151,7 @@ fn check_call(s: &[u8], at: usize, before: Words, mem: &mut [u8]) -> Checked {
         2 => request(s, body, before),
         3 => fresh(s, body, before, mem),
         4 => load_list(s, body, before, mem),
+        5 => load_both(s, body, before, mem),
         _ => Checked {
             what: Difference::Format,
             words: before,

@@ -14,6 +14,7 @@ fn print_what(what: Difference) {
         Difference::Count => io::write_all(STDOUT_FILENO, b"count"),
         Difference::State => io::write_all(STDOUT_FILENO, b"state"),
         Difference::Memory => io::write_all(STDOUT_FILENO, b"memory"),
+        Difference::Scratch => io::write_all(STDOUT_FILENO, b"scratch"),
         Difference::Format => io::write_all(STDOUT_FILENO, b"format"),
     }
     ;

@@ -4,6 +4,10 @@ pub mod Reading
 pub mod Format
 -- puts into a memory
 pub mod Puts
+-- what is left of a list, command by command
+pub mod Left
+-- that what it puts are bytes
+pub mod PutBytes
 -- a list judged command by command
 pub mod Judging
 -- what an accepted list is

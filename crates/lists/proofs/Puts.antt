@@ -103,3 +103,31 @@ commit-last (w ∷ ws) m a h =
     ∙ one-more m (w .0 .0) (w .1) a (lastPut a ws)
     (ltb-true (w .0 .0) (length m) (and-left (ltb (w .0 .0) (length m)) (allInside (length m) ws) h))
     (ℕ-discrete (w .0 .0) a)
+
+-- ---- The last put at an address
+
+later-later : (x y z : Option ℕ) → laterOr (laterOr x y) z ≡ laterOr x (laterOr y z)
+later-later (some b) y z = refl
+later-later none y z = refl
+
+later-none : (x : Option ℕ) → laterOr x none ≡ x
+later-none (some b) = refl
+later-none none = refl
+
+-- of some puts and others after them
+pub last-append : (a : ℕ) (x y : RealWrites) → lastPut a (x ++ y) ≡ laterOr (lastPut a y) (lastPut a x)
+unfolding lastPut
+last-append a [] y = sym (later-none (lastPut a y))
+last-append a (w ∷ ws) y =
+    rw (last-append a ws y) (later-later (lastPut a y) (lastPut a ws) (pick (eqb (w .0 .0) a) (some (w .1)) none))
+
+-- an address outside has none
+pub none-outside : (n a : ℕ) (ws : RealWrites) → allInside n ws ≡ true → n ≤ a → lastPut a ws ≡ none
+unfolding allInside lastPut
+none-outside n a [] h l = refl
+none-outside n a (w ∷ ws) h l =
+    let i : w .0 .0 < n = ltb-true (w .0 .0) n (and-left (ltb (w .0 .0) n) (allInside n ws) h) in
+    rw (
+      none-outside n a ws (and-right (ltb (w .0 .0) n) (allInside n ws) h) l,
+      ne-eqb (w .0 .0) a (λ e. omega arith),
+    )

@@ -48,3 +48,7 @@ module _ (limit : ℕ) (m : Memory) (list : List ℕ) where
           → allInside (length m) (putsOf list) ≡ true
       go true e = (passed limit (length m) list e) .inside
       go false e = cc
+
+-- for a memory as long as another a list is as sound
+pub as-long : {m n : Memory} {list : List ℕ} → Sound m list → length n ≡ length m → Sound n list
+as-long h e = record { memory = rw e (h .memory); whole = h .whole; inside = rw e (h .inside) }

@@ -16,7 +16,7 @@ use lists::Next;
 use machine::RealAddress;
 
 // So many copies of a byte from an index on; of none the index does not matter.
-fn fill(mem: &mut [u8], at: usize, count: usize, byte: u8)
+pub fn fill(mem: &mut [u8], at: usize, count: usize, byte: u8)
     requires { ⌜ (0 < count → at + count ≤ length (now mem)) ⌝ }
     ensures { λ r. ⌜ now (mem .exit) ≡ sets (now (mem .entry)) at (replicate count byte) ⌝ }
 {
@@ -51,7 +51,7 @@ fn put(mem: &mut [u8], place: RealAddress, c: Command)
 }
 
 // What a list puts, one command after another.
-fn put_all(mem: &mut [u8], list: &[u8])
+pub fn put_all(mem: &mut [u8], list: &[u8])
     requires { ⌜ Sound (now mem) (now list) ⌝ }
     ensures { λ r. ⌜ now (mem .exit) ≡ commit (putsOf (now (list .entry))) (now (mem .entry)) ⌝ }
 {

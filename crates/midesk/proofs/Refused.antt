@@ -2,7 +2,7 @@
 use Prim.Native.Nat.{ℕ, _<_}
 use mathlib.Core.Path.{_≡_, refl}
 use mathlib.Core.Logic.{_≢_}
-use mathlib.Core.List.{List}
+use mathlib.Core.List.{List, _++_}
 use lib.ListN.{length}
 use Rattle.machine.specs.declared.Refusal.{Refusal}
 use Rattle.machine.specs.declared.Answer.the-variants.{Refused}
@@ -17,7 +17,11 @@ use Rattle.lists.specs.declared.LoadAnswer.the-variants as load
 use Rattle.lists.specs.Lists.{putsOf}
 use Rattle.lists.specs.Refusals.{deskPieces, loadAnswerNumber}
 use Rattle.load.specs.Loading.{loadRefusal, loadedBy, loadOf}
-use Rattle.midesk.specs.Exports.{loadLeft, loadCall}
+use Rattle.joint.specs.declared.JointRefusal.the-variants.{Load, Scratch, Clash}
+use Rattle.joint.specs.declared.JointAnswer.{JointAnswer}
+use Rattle.joint.specs.declared.JointAnswer.the-variants as joint
+use Rattle.joint.specs.Joint.{jointAnswerNumber, jointRefusal, loadedBothBy, jointOf}
+use Rattle.midesk.specs.Exports.{loadLeft, loadCall, loadBothLeft, loadBothCall}
 use Rattle.midesk.specs.Exports.{repliedOf, requestCall, stepLeft, stepCall, runLeft, runCall}
 
 module _ (b : List ℕ) (l : length b ≡ stateBytes) (small : (i : ℕ) → byteAt b i < 256) where
@@ -48,3 +52,16 @@ refused-load m list = go (loadRefusal deskPieces (length m) list)
         → (loadedBy a (putsOf list) m) .memory ≡ m
     go Accepted h = absurd (h refl)
     go (load.Refused k) h = refl
+
+-- and so does a refused load of two lists
+pub refused-load-both : (m : Memory) (first second s : List ℕ) → (loadBothCall m first second s) .answer ≢ 0
+    → (loadBothCall m first second s) .memory ≡ m
+unfolding loadBothCall loadBothLeft jointOf loadedBothBy
+refused-load-both m first second s = go (jointRefusal (length m) first second (length s))
+  where
+    go : (a : JointAnswer) → jointAnswerNumber ((loadedBothBy a (putsOf first ++ putsOf second) m s) .answer) ≢ 0
+        → (loadedBothBy a (putsOf first ++ putsOf second) m s) .memory ≡ m
+    go joint.Accepted h = absurd (h refl)
+    go (joint.Refused (Load k)) h = refl
+    go (joint.Refused Scratch) h = refl
+    go (joint.Refused Clash) h = refl

@@ -1,5 +1,5 @@
 -- The calls on numbers and bytes: unpack the state, make the call of `machine`, pack what it leaves.
--- A load is the call of `load`.
+-- A load is the call of `load`, of two lists that of `joint`.
 use Prim.Native.Nat.{ℕ, _+_, _*_}
 use mathlib.Core.List.{List}
 use Rattle.machine.specs.declared.StepAnswer.{StepAnswer}
@@ -10,6 +10,7 @@ use Rattle.machine.specs.Calls.{answerNumber, freshOf, stepAnswerNumber, Steppe
 use Rattle.layout.specs.Layout.{packed, unpacked}
 use Rattle.lists.specs.Refusals.{deskPieces, loadAnswerNumber}
 use Rattle.load.specs.Loading.{Loaded, loadOf}
+use Rattle.joint.specs.Joint.{jointAnswerNumber, LoadedBoth, jointOf}
 
 -- A call that leaves the memory alone: its answer is the number of its refusal, 0 where it was
 -- carried out
@@ -89,10 +90,23 @@ loadLeft r = record { answer = loadAnswerNumber (r .answer); memory = r .memory 
 unfoldable pub loadCall : Memory → List ℕ → LoadLeft
 loadCall m list = loadLeft (loadOf deskPieces m list)
 
--- The version, 2.0.0, as one number
+-- So does a load of two lists, which leaves a scratch too
+
+pub record LoadBothLeft : Type 0 where
+  pub answer : ℕ
+  pub memory : Memory
+  pub scratch : List ℕ
+
+unfoldable pub loadBothLeft : LoadedBoth → LoadBothLeft
+loadBothLeft r = record { answer = jointAnswerNumber (r .answer); memory = r .memory; scratch = r .scratch }
+
+unfoldable pub loadBothCall : Memory → List ℕ → List ℕ → List ℕ → LoadBothLeft
+loadBothCall m first second s = loadBothLeft (jointOf m first second s)
+
+-- The version, 2.1.0, as one number
 
 abbrev pub versionOf : ℕ → ℕ → ℕ → ℕ
 versionOf major minor patch = major * 65536 + minor * 256 + patch
 
 unfoldable pub version : ℕ
-version = versionOf 2 0 0
+version = versionOf 2 1 0

@@ -1,8 +1,10 @@
-// The calls for programs in C and Rust: the state as bytes, memory and load list as lent slices. Any
-// bytes may be handed in as either; every call answers. Beside them the version of the archive.
+// The calls for programs in C and Rust: the state as bytes; memory, load lists and scratch as lent
+// slices. Any bytes may be handed in as any of them; every call answers. Beside them the version of the
+// archive.
 ghost use mathlib.Core.Path.{_≡_};
 ghost use lib.ListN.{length};
-ghost use Rattle.midesk.specs.Exports.{freshCall, loadCall, requestCall, runCall, stepCall, stepCode, version};
+ghost use Rattle.midesk.specs.Exports.{freshCall, loadBothCall, loadCall, requestCall, runCall, stepCall};
+ghost use Rattle.midesk.specs.Exports.{stepCode, version};
 use layout::STATE_BYTES;
 use machine::RealAddress;
 use machine::StepAnswer;
@@ -100,10 +102,26 @@ pub extern "C" fn midesk_load(mem: &mut [u8], list: &[u8]) -> u32
     a.number()
 }
 
+// Loads two lists into this memory, with a scratch at least as long as it. Answers the number of the
+// refusal, or 0.
+#[no_mangle]
+pub extern "C" fn midesk_load_both(
+    mem: &mut [u8],
+    first: &[u8],
+    second: &[u8],
+    scratch: &mut [u8],
+) -> u32
+    ensures { λ r. ⌜ record { answer = r; memory = now (mem .exit); scratch = now (scratch .exit) }
+        ≡ loadBothCall (now (mem .entry)) (now (first .entry)) (now (second .entry)) (now (scratch .entry)) ⌝ }
+{
+    let a = joint::load_both(mem, first, second, scratch);
+    a.number()
+}
+
 // The version of the archive: major, minor and patch in a byte each, patch lowest.
 #[no_mangle]
 pub extern "C" fn midesk_version() -> u32
     ensures { λ r. ⌜ r ≡ version ⌝ }
 {
-    0x02_00_00
+    0x02_01_00
 }

@@ -2,8 +2,8 @@
 
 use std::fmt;
 
-/// Why a call was refused, numbers 1 to 7 and 17 to 19 of the manual (`docs/MACHINE.md`). A refused call has changed
-/// nothing.
+/// Why a call was refused, numbers 1 to 7, 17 to 19, 22 and 23 of the manual (`docs/MACHINE.md`). A refused call has
+/// changed nothing, but for one thing: after [`Refusal::Clash`] the scratch is all zeros.
 ///
 /// A later version may have more of them, so a `match` needs an arm for the others.
 #[derive(Clone, Copy, PartialEq, Eq, Hash, Debug)]
@@ -31,6 +31,10 @@ pub enum Refusal {
     Pieces = 18,
     /// A list puts a byte outside memory.
     Outside = 19,
+    /// The scratch is shorter than the memory.
+    Scratch = 22,
+    /// Two lists put a byte at one address, and their last bytes there differ. The scratch is all zeros.
+    Clash = 23,
 }
 
 impl Refusal {
@@ -39,10 +43,10 @@ impl Refusal {
         self as u32
     }
 
-    /// The refusal of a number from 1 to 7 or 17 to 19.
+    /// The refusal of this number, if there is one: 1 to 7, 17 to 19, 22 and 23 have one.
     pub fn of(number: u32) -> Option<Refusal> {
         use Refusal::*;
-        [Length, SystemBlock, ControlBlock, Map, Status, Level, Stopped, Malformed, Pieces, Outside]
+        [Length, SystemBlock, ControlBlock, Map, Status, Level, Stopped, Malformed, Pieces, Outside, Scratch, Clash]
             .into_iter()
             .find(|r| r.number() == number)
     }
@@ -61,6 +65,8 @@ impl fmt::Display for Refusal {
             Refusal::Malformed => "the list has an unknown command, is cut short, or has bytes after its end",
             Refusal::Pieces => "the list has more than 4,096 pieces",
             Refusal::Outside => "the list puts a byte outside memory",
+            Refusal::Scratch => "the scratch is shorter than the memory",
+            Refusal::Clash => "the two lists put unequal last bytes at one address",
         })
     }
 }
@@ -111,7 +117,7 @@ impl Mark {
     }
 }
 
-/// The answer of `fresh`, `run`, `request` and `load`.
+/// The answer of every call but `step`.
 pub(crate) fn refused(answer: u32) -> Result<(), Refusal> {
     match answer {
         0 => Ok(()),

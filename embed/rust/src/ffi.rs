@@ -1,8 +1,8 @@
 //! The calls of libmidesk.a: the only unsafe code of this crate.
 //!
 //! The archive asks of its caller that the pointers lead to as many bytes as said, readable and (except for `fresh`'s
-//! memory and `load`'s list) writable, that they do not overlap, and that nobody else uses them during the call.
-//! References give all of it. Every content of the bytes and every number is answered.
+//! memory and all lists) writable, that they do not overlap (two lists may), and that nobody else uses them during the
+//! call. References give all of it. Every content of the bytes and every number is answered.
 
 use crate::STATE_BYTES;
 
@@ -13,6 +13,16 @@ mod c {
         pub fn midesk_run(mem: *mut u8, len: usize, state: *mut u8, n: u64, steps: *mut u64) -> u32;
         pub fn midesk_request(state: *mut u8, level: u32) -> u32;
         pub fn midesk_load(mem: *mut u8, len: usize, list: *const u8, list_len: usize) -> u32;
+        pub fn midesk_load_both(
+            mem: *mut u8,
+            len: usize,
+            first: *const u8,
+            first_len: usize,
+            second: *const u8,
+            second_len: usize,
+            scratch: *mut u8,
+            scratch_len: usize,
+        ) -> u32;
         pub fn midesk_version() -> u32;
     }
 }
@@ -50,6 +60,25 @@ pub fn load(mem: &mut [u8], list: &[u8]) -> u32 {
     // SAFETY: `mem` is `mem.len()` bytes that may be read and written, `list` `list.len()` bytes that may be read; an
     // exclusive and a shared reference do not overlap, and nobody writes `list` meanwhile. The call only reads it.
     unsafe { c::midesk_load(mem.as_mut_ptr(), mem.len(), list.as_ptr(), list.len()) }
+}
+
+/// The number of the refusal, or 0.
+pub fn load_both(mem: &mut [u8], first: &[u8], second: &[u8], scratch: &mut [u8]) -> u32 {
+    // SAFETY: `mem` and `scratch` are as many bytes as said that may be read and written, `first` and `second` as many
+    // that may be read. An exclusive reference overlaps no other reference, and nobody writes the lists meanwhile. The
+    // two lists may overlap each other: the call only reads them.
+    unsafe {
+        c::midesk_load_both(
+            mem.as_mut_ptr(),
+            mem.len(),
+            first.as_ptr(),
+            first.len(),
+            second.as_ptr(),
+            second.len(),
+            scratch.as_mut_ptr(),
+            scratch.len(),
+        )
+    }
 }
 
 /// The version of the archive.

@@ -2,8 +2,8 @@
 //!
 //! This crate is a thin layer of plain Rust over the proved archive; the layer is tested, not proved.
 //!
-//! A [`Desk`] runs machine code for MI in a memory that is lent to each call. Every memory, state, list and number is
-//! answered: what cannot be used is refused with a [`Refusal`], and then state and memory are as they were.
+//! A [`Desk`] runs machine code for MI in a memory that is lent to each call. Every memory, state, list, scratch and
+//! number is answered: what cannot be used is refused with a [`Refusal`], and then state and memory are as they were.
 //!
 //! ```
 //! use midesk::{Desk, Event, Mark};
@@ -22,8 +22,9 @@
 //! # Ok::<(), midesk::Refusal>(())
 //! ```
 //!
-//! [`load`] puts a program into memory that arrives as a load list, in parts with their own addresses. [`numbers`]
-//! describes its commands, and what the desk uses in memory: system block, control block and map.
+//! [`load`] puts a program into memory that arrives as a load list, in parts with their own addresses; [`load_both`]
+//! loads two lists together. [`numbers`] has the commands of lists, and describes what the desk uses in memory: system
+//! block, control block and map.
 //!
 //! The crate links `libmidesk.a`, which `embed/build` of the repository makes. `docs/MACHINE.md` there is the reference
 //! manual: command bytes, operand forms, blocks, map, numbers.
@@ -44,7 +45,7 @@ pub const STATE_BYTES: usize = 90;
 
 /// The version of this crate as one number, 65536 × major + 256 × minor + patch, as the C header has it in
 /// `MIDESK_VERSION`.
-pub const VERSION: u32 = 0x02_00_00;
+pub const VERSION: u32 = 0x02_01_00;
 
 /// The version of the archive `libmidesk.a` that is linked, as one number: [`VERSION`] where crate and archive belong
 /// together.
@@ -116,6 +117,56 @@ pub fn version() -> u32 {
 /// [`LIST_PIECES`]: numbers::LIST_PIECES
 pub fn load(memory: &mut [u8], list: &[u8]) -> Result<(), Refusal> {
     answers::refused(ffi::load(memory, list))
+}
+
+/// Loads two lists into memory together. No desk is asked. Each list is one of [`load`]: its place is 0 at first, and
+/// it may have [`LIST_PIECES`] pieces of its own. Afterwards memory holds at each address the last byte that either
+/// list puts there, and elsewhere the old byte. Where both put a byte at one address, their last bytes there must be
+/// equal: else the lists clash. Only the last bytes count: what a list puts and then replaces itself is no clash. So
+/// two lists that load leave the same memory when they are exchanged.
+///
+/// `scratch` is lent to find a clash before memory is changed: it must be as long as the memory, or longer. What it
+/// holds before does not matter. After loading, and after a clash, all of it is zeros, the bytes past the memory's
+/// length too; after every other refusal it is as it was.
+///
+/// The lists are only read, several times, and may be one and the same. The time grows with the lengths of memory,
+/// scratch and lists and with the bytes put.
+///
+/// ```
+/// use midesk::numbers::{LIST_BYTE, LIST_COPIES, LIST_END, LIST_FOUR, LIST_MOVE};
+/// use midesk::{load_both, Refusal};
+///
+/// let mut memory = vec![0xFF; 512];
+/// let mut scratch = vec![0xAA; 512];
+///
+/// // At 2 and 3 both put 7 last; the first list has put 9 at 3 before.
+/// let first = [LIST_FOUR, 5, 6, 7, 9, LIST_MOVE, 0, 0, 0, 3, LIST_BYTE, 7, LIST_END];
+/// let second = [LIST_MOVE, 0, 0, 0, 2, LIST_COPIES, 0, 4, 7, LIST_END];
+/// load_both(&mut memory, &first, &second, &mut scratch)?;
+/// assert_eq!(memory[..8], [5, 6, 7, 7, 7, 7, 0xFF, 0xFF]);
+///
+/// // Another byte at 3: nothing is put, and the scratch is zeros.
+/// let other = [LIST_MOVE, 0, 0, 0, 3, LIST_BYTE, 8, LIST_END];
+/// assert_eq!(load_both(&mut memory, &first, &other, &mut scratch), Err(Refusal::Clash));
+/// assert_eq!(memory[..8], [5, 6, 7, 7, 7, 7, 0xFF, 0xFF]);
+/// assert_eq!(scratch, [0; 512]);
+/// # Ok::<(), Refusal>(())
+/// ```
+///
+/// # Errors
+///
+/// The first of these that is so; memory is as it was:
+///
+/// - [`Refusal::Length`]: the memory length is not allowed;
+/// - [`Refusal::Malformed`], [`Refusal::Pieces`], [`Refusal::Outside`] of the first list, as [`load`] has them and in
+///   its order;
+/// - the same three of the second list;
+/// - [`Refusal::Scratch`]: the scratch is shorter than the memory;
+/// - [`Refusal::Clash`]: an address at which both lists put a byte, and their last bytes there differ.
+///
+/// [`LIST_PIECES`]: numbers::LIST_PIECES
+pub fn load_both(memory: &mut [u8], first: &[u8], second: &[u8], scratch: &mut [u8]) -> Result<(), Refusal> {
+    answers::refused(ffi::load_both(memory, first, second, scratch))
 }
 
 const STATUS: usize = 64;

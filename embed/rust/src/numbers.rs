@@ -31,9 +31,10 @@
 //!
 //! # Load lists
 //!
-//! [`load`] has the table of their commands.
+//! [`load`] has the table of their commands; [`load_both`] takes two lists.
 //!
 //! [`load`]: crate::load
+//! [`load_both`]: crate::load_both
 //! [`Refusal::ControlBlock`]: crate::Refusal::ControlBlock
 //! [`Refusal::Map`]: crate::Refusal::Map
 

@@ -1,6 +1,6 @@
 //! Each function by itself.
 
-use midesk::{load, numbers, Desk, Event, Mark, Refusal, STATE_BYTES};
+use midesk::{load, load_both, numbers, Desk, Event, Mark, Refusal, STATE_BYTES};
 use std::borrow::Borrow;
 
 fn put(memory: &mut [u8], at: usize, word: u32) {
@@ -267,14 +267,15 @@ fn bytes_are_as_documented() {
 
 #[test]
 fn refusals_have_their_numbers() {
-    for number in (1..8).chain(17..20) {
+    for number in (1..8).chain(17..20).chain(22..24) {
         assert_eq!(Refusal::of(number).map(Refusal::number), Some(number));
     }
-    for number in [0, 8, 16, 20, u32::MAX] {
+    for number in [0, 8, 16, 20, 21, 24, u32::MAX] {
         assert_eq!(Refusal::of(number), None);
     }
     assert_eq!(Refusal::Stopped.to_string(), "the desk is stopped");
     assert_eq!(Refusal::Outside.to_string(), "the list puts a byte outside memory");
+    assert_eq!(Refusal::Clash.to_string(), "the two lists put unequal last bytes at one address");
 }
 
 #[test]
@@ -319,17 +320,46 @@ fn old(at: usize) -> u8 {
     0x80 | at as u8
 }
 
-/// Loads a list into a memory of old bytes that has others beside it: the answer and the memory. The list and the bytes
-/// beside the memory stay, and a refused list leaves the memory.
+/// Bytes that are lent, with others beside them.
+struct Lent(Vec<u8>);
+
+impl Lent {
+    const BESIDE: [u8; 64] = [0x55; 64];
+
+    fn new(bytes: &[u8]) -> Lent {
+        Lent([&Lent::BESIDE, bytes, &Lent::BESIDE].concat())
+    }
+
+    fn bytes(&mut self) -> &mut [u8] {
+        let end = self.0.len() - Lent::BESIDE.len();
+        &mut self.0[Lent::BESIDE.len()..end]
+    }
+
+    /// The lent bytes. Those beside them have stayed.
+    fn back(mut self) -> Vec<u8> {
+        assert!(self.0.starts_with(&Lent::BESIDE) && self.0.ends_with(&Lent::BESIDE), "a byte beside");
+        self.bytes().to_vec()
+    }
+}
+
+fn old_memory(length: usize) -> Vec<u8> {
+    (0..length).map(old).collect()
+}
+
+/// Where a memory differs from the old bytes, and what stands there.
+fn news(memory: Vec<u8>) -> Vec<(usize, u8)> {
+    memory.into_iter().enumerate().filter(|(at, byte)| *byte != old(*at)).collect()
+}
+
+/// Loads a list into a memory of old bytes: the answer and the memory. The list stays, and a refused one leaves the
+/// memory.
 fn loaded(length: usize, list: &[u8]) -> (Result<(), Refusal>, Vec<u8>) {
-    const BESIDE: usize = 64;
-    let before: Vec<u8> = (0..length).map(old).collect();
-    let mut bytes = [[0x55; BESIDE].as_slice(), &before, &[0x55; BESIDE]].concat();
+    let before = old_memory(length);
+    let mut lent = Lent::new(&before);
     let given = list.to_vec();
-    let answer = load(&mut bytes[BESIDE..BESIDE + length], &given);
+    let answer = load(lent.bytes(), &given);
     assert_eq!(given, list);
-    assert!(bytes[..BESIDE].iter().chain(&bytes[BESIDE + length..]).all(|byte| *byte == 0x55), "a byte beside");
-    let memory = bytes[BESIDE..BESIDE + length].to_vec();
+    let memory = lent.back();
     assert!(answer.is_ok() || memory == before, "a refused list has changed memory");
     (answer, memory)
 }
@@ -338,7 +368,7 @@ fn loaded(length: usize, list: &[u8]) -> (Result<(), Refusal>, Vec<u8>) {
 fn puts(length: usize, list: &[u8]) -> Vec<(usize, u8)> {
     let (answer, memory) = loaded(length, list);
     assert_eq!(answer, Ok(()), "{list:X?}");
-    memory.into_iter().enumerate().filter(|(at, byte)| *byte != old(*at)).collect()
+    news(memory)
 }
 
 fn refusal(length: usize, list: &[u8]) -> Refusal {
@@ -520,6 +550,320 @@ fn a_program_that_is_loaded_runs() {
     assert_eq!(load(&mut memory, &list(&[code.clone(), to(1024), byte(0)])), Err(Refusal::Outside));
     assert_eq!(memory, vec![0xFF; 1024]);
     assert_eq!(load(&mut memory, &list(&[data, code])), Ok(()));
+    let mut desk = Desk::fresh(&memory, 0, 256, 512).unwrap();
+    assert_eq!(desk.run(&mut memory, 9), Ok(2));
+    assert_eq!((desk.mark(), desk.register(0)), (Mark::Stopped(numbers::HALT), 0x1234_5678));
+}
+
+// ---- Two lists.
+
+/// Loads two lists into a memory of old bytes with this scratch: the answer and the memory. The lists stay, a refusal
+/// leaves the memory, and the scratch is zeros where they are loaded or clash, else as it was.
+fn loaded_both(length: usize, first: &[u8], second: &[u8], scratch: &[u8]) -> (Result<(), Refusal>, Vec<u8>) {
+    let before = old_memory(length);
+    let (mut memory, mut lent) = (Lent::new(&before), Lent::new(scratch));
+    let given = (first.to_vec(), second.to_vec());
+    let answer = load_both(memory.bytes(), &given.0, &given.1, lent.bytes());
+    assert_eq!((given.0.as_slice(), given.1.as_slice()), (first, second));
+    let (memory, lent) = (memory.back(), lent.back());
+    assert!(answer.is_ok() || memory == before, "refused lists have changed memory");
+    match answer {
+        Ok(()) | Err(Refusal::Clash) => assert!(lent.iter().all(|byte| *byte == 0), "{answer:?}: not all zeros"),
+        Err(_) => assert!(lent == scratch, "{answer:?}: the scratch has changed"),
+    }
+    (answer, memory)
+}
+
+/// Any bytes for a scratch, those among them that a load could note in it.
+fn any_scratch(length: usize) -> Vec<u8> {
+    (0..length).map(|at| at as u8).collect()
+}
+
+/// What two lists put that load, each with its address: the same when they are exchanged.
+fn puts_both(length: usize, first: &[u8], second: &[u8]) -> Vec<(usize, u8)> {
+    let scratch = any_scratch(length);
+    let (answer, memory) = loaded_both(length, first, second, &scratch);
+    assert_eq!(answer, Ok(()), "{first:X?}, {second:X?}");
+    assert!(loaded_both(length, second, first, &scratch) == (Ok(()), memory.clone()), "{first:X?}, {second:X?}");
+    news(memory)
+}
+
+fn refusal_both(length: usize, first: &[u8], second: &[u8]) -> Refusal {
+    loaded_both(length, first, second, &any_scratch(length)).0.expect_err("lists that load")
+}
+
+/// Whether two lists clash; else they load. Exchanged they do the same.
+fn clash(length: usize, first: &[u8], second: &[u8]) -> bool {
+    let scratch = any_scratch(length);
+    let (answer, _) = loaded_both(length, first, second, &scratch);
+    assert!(matches!(answer, Ok(()) | Err(Refusal::Clash)), "{answer:?}");
+    assert_eq!(loaded_both(length, second, first, &scratch).0, answer, "{first:X?}, {second:X?}");
+    answer.is_err()
+}
+
+#[test]
+fn two_lists_put_what_either_puts() {
+    let low = list(&[four([1, 2, 3, 4])]);
+    let high = list(&[to(0x100), copies(2, 5), byte(6)]);
+    assert_eq!(puts_both(512, &low, &high).len(), 7);
+    assert_eq!(puts_both(512, &list(&[byte(1)]), &list(&[to(511), byte(2)])), [(0, 1), (511, 2)]);
+    // Each place begins at 0, and what they put may lie in between.
+    assert_eq!(puts_both(512, &list(&[byte(1), byte(2)]), &list(&[byte(1)])), [(0, 1), (1, 2)]);
+    let even = list(&[byte(1), to(2), byte(3), to(4), byte(5)]);
+    let odd = list(&[to(1), byte(2), to(3), byte(4)]);
+    assert_eq!(puts_both(512, &even, &odd), [(0, 1), (1, 2), (2, 3), (3, 4), (4, 5)]);
+    // An overlap that agrees, by other commands.
+    let row = list(&[copies(6, 7), to(4), byte(8)]);
+    assert_eq!(
+        puts_both(512, &row, &list(&[to(3), four([7, 8, 7, 9])])),
+        [(0, 7), (1, 7), (2, 7), (3, 7), (4, 8), (5, 7), (6, 9)]
+    );
+    // A list that puts nothing.
+    for nothing in [list(&[to(3)]), list(&[copies(0, 9)]), vec![0x00]] {
+        assert_eq!(puts_both(512, &low, &nothing), puts(512, &low));
+        assert_eq!(puts_both(512, &nothing, &nothing), []);
+    }
+    // Bytes that memory holds already.
+    let same = list(&[to(5), byte(old(5))]);
+    assert_eq!(puts_both(512, &same, &same), []);
+    assert!(clash(512, &same, &list(&[to(5), byte(1)])));
+}
+
+#[test]
+fn a_list_goes_with_itself() {
+    for one in [
+        vec![0x00],
+        list(&[four([1, 2, 3, 4]), copies(300, 5), to(0), byte(6)]),
+        list(&[byte(1), to(0), byte(2), to(0), byte(1)]),
+        list(&[copies(3, 7).repeat(4096)]),
+    ] {
+        let length = 16384;
+        let (answer, memory) = loaded(length, &one);
+        assert_eq!(answer, Ok(()));
+        assert!(puts_both(length, &one, &one) == news(memory));
+        // The same bytes, not only equal ones; and a list that is a part of the other.
+        let (mut memory, mut scratch) = (old_memory(length), any_scratch(length));
+        assert_eq!(load_both(&mut memory, &one, &one, &mut scratch), Ok(()));
+        assert!(news(memory) == puts(length, &one) && scratch.iter().all(|byte| *byte == 0));
+    }
+    let whole = list(&[to(5), byte(7), to(3), byte(8)]);
+    let mut memory = old_memory(512);
+    assert_eq!(load_both(&mut memory, &whole, &whole[7..], &mut [1; 512]), Ok(()));
+    assert_eq!(news(memory), [(3, 8), (5, 7)]);
+    let mut memory = old_memory(512);
+    assert_eq!(load_both(&mut memory, &whole[5..], &whole[12..], &mut [1; 512]), Err(Refusal::Clash));
+}
+
+/// Rows of at most three bytes, each 1, 2 or 17.
+fn rows() -> Vec<Vec<u8>> {
+    let mut rows = vec![vec![]];
+    for at in 0..13 {
+        for byte in [1, 2, 17] {
+            let longer = [rows[at].as_slice(), &[byte]].concat();
+            rows.push(longer);
+        }
+    }
+    rows
+}
+
+#[test]
+fn only_last_bytes_clash() {
+    assert_eq!(rows().len(), 1 + 3 + 9 + 27);
+    // Each list puts the bytes of a row one after another at one address.
+    let at_one = |row: &[u8]| list(&row.iter().map(|put| [to(0x123), byte(*put)].concat()).collect::<Vec<_>>());
+    for first in rows() {
+        for second in rows() {
+            let (a, b) = (at_one(&first), at_one(&second));
+            let differ = matches!((first.last(), second.last()), (Some(x), Some(y)) if x != y);
+            assert_eq!(clash(512, &a, &b), differ, "{first:?}, {second:?}");
+            if !differ {
+                let last = first.last().or(second.last());
+                assert_eq!(puts_both(512, &a, &b), Vec::from_iter(last.map(|byte| (0x123, *byte))));
+            }
+        }
+    }
+    // A clash that later puts take back, and one that they make, among copies.
+    let copied = list(&[copies(100, 7)]);
+    assert!(!clash(512, &copied, &list(&[copies(100, 8), to(0), copies(100, 7)])));
+    assert!(clash(512, &copied, &list(&[copies(100, 8), to(0), copies(99, 7)])));
+    assert!(clash(512, &copied, &list(&[copies(100, 8), to(1), copies(99, 7)])));
+    assert!(clash(512, &copied, &list(&[copies(100, 7), to(99), copies(1, 8)])));
+    assert!(!clash(512, &copied, &list(&[copies(100, 7), to(100), copies(100, 8)])));
+}
+
+#[test]
+fn every_bit_of_a_byte_counts() {
+    // All pairs of bytes, as 02h.
+    let (mut memory, mut scratch) = ([0; 512], [0; 512]);
+    for first in 0..=255 {
+        for second in 0..=255 {
+            let (a, b) = ([0x01, 0, 0, 1, 0, 0x02, first, 0x00], [0x01, 0, 0, 1, 0, 0x02, second, 0x00]);
+            memory[256] = !first;
+            let want = if first == second { Ok(()) } else { Err(Refusal::Clash) };
+            assert_eq!(load_both(&mut memory, &a, &b, &mut scratch), want, "{first:02X}h, {second:02X}h");
+            assert_eq!(memory[256], if first == second { first } else { !first });
+            assert_eq!(scratch, [0; 512]);
+        }
+    }
+    // One bit, the high half, the low half, by all pieces and at each of their places.
+    let put = |kind: usize, at: u32, byte: u8| match kind {
+        0..=3 => {
+            let mut bytes = [1, 2, 3, 4];
+            bytes[kind] = byte;
+            [to(at - kind as u32), four(bytes)].concat()
+        }
+        4 => [to(at - 20), copies(41, byte)].concat(),
+        5 => [to(at), copies(1, byte)].concat(),
+        _ => [to(at), self::byte(byte)].concat(),
+    };
+    // What stands beside the byte is put again by both.
+    let beside = |put: Vec<u8>| list(&[put, to(0x200 - 20), copies(20, 9), to(0x201), copies(20, 9)]);
+    for by_first in 0..7 {
+        for by_second in 0..7 {
+            for byte in [0x00, 0x0F, 0x10, 0x5A, 0xF0, 0xFF] {
+                let first = beside(put(by_first, 0x200, byte));
+                assert!(!clash(1024, &first, &beside(put(by_second, 0x200, byte))));
+                for other in (0..8).map(|bit| 1 << bit).chain([0x0F, 0xF0, 0xFF]) {
+                    assert!(clash(1024, &first, &beside(put(by_second, 0x200, byte ^ other))));
+                }
+            }
+        }
+    }
+}
+
+#[test]
+fn a_clash_is_found_at_every_address() {
+    let all = list(&[copies(512, 7)]);
+    for at in 0..512 {
+        for other in [0x17, 0x06] {
+            let but_one = list(&[copies(512, 7), to(at), byte(other)]);
+            assert!(clash(512, &all, &but_one));
+            assert!(clash(512, &list(&[to(at), byte(7)]), &but_one));
+            assert!(!clash(512, &but_one, &but_one));
+            assert!(!clash(512, &list(&[to(at), byte(other)]), &but_one));
+        }
+    }
+    // One is enough, and more are no other.
+    assert!(clash(512, &all, &list(&[copies(512, 0x70)])));
+    for length in [512, 1024, 65536, 16_777_216] {
+        let end = length as u32;
+        for at in [0, end / 2, end - 1] {
+            assert!(clash(length, &list(&[to(at), byte(7)]), &list(&[to(at), byte(8)])));
+            assert_eq!(puts_both(length, &list(&[to(at), byte(7)]), &list(&[to(at), byte(7)])), [(at as usize, 7)]);
+        }
+        assert_eq!(puts_both(length, &list(&[to(end - 2), byte(7)]), &list(&[to(end - 1), byte(8)])).len(), 2);
+    }
+}
+
+#[test]
+fn the_scratch_is_as_long_as_the_memory_or_longer() {
+    let (one, same, other) = (list(&[copies(512, 7)]), list(&[to(3), byte(7)]), list(&[to(3), byte(8)]));
+    let with = |second: &[u8], scratch: &[u8]| loaded_both(512, &one, second, scratch).0;
+    for length in [0, 1, 256, 510, 511] {
+        assert_eq!(with(&same, &any_scratch(length)), Err(Refusal::Scratch));
+        assert_eq!(with(&other, &any_scratch(length)), Err(Refusal::Scratch));
+    }
+    for length in [512, 513, 1024, 70_000, 16_777_217] {
+        assert_eq!(with(&same, &any_scratch(length)), Ok(()));
+        assert_eq!(with(&other, &any_scratch(length)), Err(Refusal::Clash));
+    }
+    // Whatever it held.
+    for byte in 0..=255 {
+        assert_eq!(with(&same, &[byte; 600]), Ok(()));
+        assert_eq!(with(&other, &[byte; 600]), Err(Refusal::Clash));
+        // Lists that put little or nothing.
+        assert_eq!(loaded_both(512, &same, &same, &[byte; 600]).0, Ok(()));
+        assert_eq!(loaded_both(512, &[0x00], &[0x00], &[byte; 600]).0, Ok(()));
+        assert_eq!(loaded_both(512, &[0x00], &[0x00], &[byte; 511]).0, Err(Refusal::Scratch));
+    }
+    // A scratch of another length than the memory's is not refused by 1.
+    let mut memory = vec![0; 16_777_216];
+    assert_eq!(load_both(&mut memory, &one, &same, &mut vec![1; 16_777_215]), Err(Refusal::Scratch));
+    assert_eq!(load_both(&mut memory, &one, &same, &mut vec![1; 16_777_216]), Ok(()));
+}
+
+#[test]
+fn each_list_has_its_own_pieces_and_borders() {
+    let most = |byte| list(&[copies(3, byte).repeat(4096)]);
+    let more = list(&[copies(0, 7).repeat(4097)]);
+    assert_eq!(puts_both(16384, &most(7), &most(7)).len(), 3 * 4096);
+    assert!(clash(16384, &most(7), &most(8)));
+    assert_eq!(refusal_both(16384, &more, &most(7)), Refusal::Pieces);
+    assert_eq!(refusal_both(16384, &most(7), &more), Refusal::Pieces);
+    // The last byte of memory, and one further.
+    let fits = list(&[to(510), copies(2, 7)]);
+    let past = list(&[to(510), copies(3, 7)]);
+    assert_eq!(puts_both(512, &fits, &fits), [(510, 7), (511, 7)]);
+    assert_eq!(refusal_both(512, &fits, &past), Refusal::Outside);
+    assert_eq!(refusal_both(512, &past, &fits), Refusal::Outside);
+    // A place anywhere is no put.
+    let far = list(&[to(u32::MAX), copies(0, 7), to(511), byte(7)]);
+    assert_eq!(puts_both(512, &far, &fits), [(510, 7), (511, 7)]);
+    let around = list(&[to(u32::MAX), four([7; 4])]);
+    assert_eq!(refusal_both(512, &around, &fits), Refusal::Outside);
+    assert_eq!(refusal_both(512, &fits, &around), Refusal::Outside);
+}
+
+#[test]
+fn refusals_of_two_lists_are_tried_in_order() {
+    let malformed = vec![0x05];
+    let many = copies(0, 7).repeat(4097);
+    let outside = [to(512), byte(7), to(0)].concat();
+    // What else a list has beside the byte that clashes, and the number of its refusal.
+    let parts = [
+        (vec![], None),
+        (malformed.clone(), Some(Refusal::Malformed)),
+        (many.clone(), Some(Refusal::Pieces)),
+        (outside.clone(), Some(Refusal::Outside)),
+        ([many.clone(), malformed.clone()].concat(), Some(Refusal::Malformed)),
+        ([outside.clone(), malformed].concat(), Some(Refusal::Malformed)),
+        ([outside, many].concat(), Some(Refusal::Pieces)),
+    ];
+    for (one, first) in &parts {
+        for (two, second) in &parts {
+            for (put, clash) in [(7, None), (8, Some(Refusal::Clash))] {
+                let (a, b) = (list(&[one.as_slice(), &byte(7)]), list(&[two.as_slice(), &byte(put)]));
+                for (scratch, short) in [(511, Some(Refusal::Scratch)), (512, None), (513, None)] {
+                    let want = first.or(*second).or(short).or(clash);
+                    let (answer, _) = loaded_both(512, &a, &b, &any_scratch(scratch));
+                    assert_eq!(answer.err(), want, "{first:?}, {second:?}, {short:?}, {clash:?}");
+                }
+                // The memory length comes before all of them.
+                for length in [0, 1, 511, 513, 768] {
+                    for scratch in [0, length, 1024] {
+                        let (answer, _) = loaded_both(length, &a, &b, &any_scratch(scratch));
+                        assert_eq!(answer, Err(Refusal::Length));
+                    }
+                }
+            }
+        }
+    }
+    for length in [16_777_217, 16_777_728] {
+        assert_eq!(refusal_both(length, &[0x00], &[0x00]), Refusal::Length);
+    }
+    // Each list cut short everywhere, down to none.
+    let whole = list(&[byte(1), to(0x10), four([1, 2, 3, 4]), copies(2, 5)]);
+    for length in 0..whole.len() {
+        assert_eq!(refusal_both(512, &whole[..length], &whole), Refusal::Malformed);
+        assert_eq!(refusal_both(512, &whole, &whole[..length]), Refusal::Malformed);
+    }
+    assert_eq!(refusal_both(512, &[], &[]), Refusal::Malformed);
+    // An end and one more byte.
+    for after in 0..=255 {
+        assert_eq!(refusal_both(512, &[0x00, after], &whole), Refusal::Malformed);
+        assert_eq!(refusal_both(512, &whole, &[0x00, after]), Refusal::Malformed);
+    }
+}
+
+#[test]
+fn a_program_that_arrives_as_two_lists_runs() {
+    // MOVE W data,R0, then HALT: the code at 512 from one list, the data at 768 from the other. Both zero what is past
+    // the code.
+    let zeros = [to(525), copies(99, 0)].concat();
+    let code = [to(512), four([0x12, 0, 0, 0]), four([0, 3, 0, 2]), copies(6, 0), zeros.clone()];
+    let data = [zeros, to(768), four([0x12, 0x34, 0x56, 0x78])];
+    let (mut memory, mut scratch) = (vec![0xFF; 1024], vec![0xFF; 1024]);
+    assert_eq!(load_both(&mut memory, &list(&code), &list(&data), &mut scratch), Ok(()));
     let mut desk = Desk::fresh(&memory, 0, 256, 512).unwrap();
     assert_eq!(desk.run(&mut memory, 9), Ok(2));
     assert_eq!((desk.mark(), desk.register(0)), (Mark::Stopped(numbers::HALT), 0x1234_5678));

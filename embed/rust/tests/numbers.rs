@@ -77,6 +77,8 @@ fn refusals_are_the_headers() {
         (Malformed, "MALFORMED"),
         (Pieces, "PIECES"),
         (Outside, "OUTSIDE"),
+        (Scratch, "SCRATCH"),
+        (Clash, "CLASH"),
     ];
     for (refusal, name) in table {
         assert_eq!(u64::from(refusal.number()), header(&format!("MIDESK_REFUSED_{name}")), "{refusal:?}");

@@ -1,16 +1,18 @@
-//! The desk against the model, in one process: the generator's cases, random sequences of calls, valid and damaged, and
-//! random load lists. MIDESK_SEED, MIDESK_FIRST and MIDESK_COUNT choose other random sequences: the seed, the first
-//! one's index, how many; MIDESK_LISTS_FIRST and MIDESK_LISTS_COUNT other sequences of lists, 10 lists in each.
+//! The desk against the model, in one process: the generator's cases, random sequences of calls, valid and damaged,
+//! random load lists, and random pairs of lists. MIDESK_SEED, MIDESK_FIRST and MIDESK_COUNT choose other random
+//! sequences: the seed, the first one's index, how many; MIDESK_LISTS_FIRST and MIDESK_LISTS_COUNT other sequences of
+//! lists, 10 lists in each; MIDESK_PAIRS_FIRST and MIDESK_PAIRS_COUNT other sequences of pairs, about 10 in each.
 //!
 //! A sequence that differs is named by the command that writes it alone, to be used in `model`.
 
 use midesk::{Desk, Event};
-use model::sequences::{lists, random, Act, Sequence};
+use model::pair::{After, Pair};
+use model::sequences::{lists, pairs, random, Act, Sequence};
 
 const BESIDE: usize = 64;
 const FILL: u8 = 0xA5;
 
-/// A memory or a list with filled bytes before and after it.
+/// A memory, a list or a scratch with filled bytes before and after it.
 struct Lent {
     bytes: Vec<u8>,
     length: usize,
@@ -55,7 +57,8 @@ fn replay(sequence: &Sequence) -> Result<(), String> {
     let mut desk = Desk::from_bytes(sequence.state);
     for (i, (act, left)) in sequence.acts.iter().enumerate() {
         let mut steps = 0;
-        let mut list_kept = true;
+        let mut lists_kept = true;
+        let mut scratch_right = true;
         let answer = match act {
             Act::Fresh { system, control, start } => {
                 let made = Desk::fresh(lent.memory(), *system, *control, *start);
@@ -74,8 +77,23 @@ fn replay(sequence: &Sequence) -> Result<(), String> {
             Act::Load(list) => {
                 let mut bytes = Lent::new(list);
                 let answer = refusal_number(&midesk::load(lent.memory(), bytes.memory()));
-                list_kept = bytes.memory() == list && bytes.untouched();
+                lists_kept = bytes.memory() == list && bytes.untouched();
                 answer
+            }
+            Act::LoadBoth(Pair { first, second, scratch }) => {
+                let (mut one, mut two, mut notes) = (Lent::new(first), Lent::new(second), Lent::new(&scratch.bytes()));
+                // Equal lists are lent as one and the same.
+                let one_bytes: &[u8] = one.memory();
+                let two_bytes = if first == second { one_bytes } else { two.memory() };
+                let answer = midesk::load_both(lent.memory(), one_bytes, two_bytes, notes.memory());
+                lists_kept = one.memory() == first && two.memory() == second && one.untouched() && two.untouched();
+                scratch_right = notes.untouched()
+                    && match left.as_ref().expect("a call leaves something").scratch {
+                        After::AsBefore => notes.memory() == scratch.bytes(),
+                        After::Zeros => notes.memory().iter().all(|byte| *byte == 0),
+                        After::Other => false,
+                    };
+                refusal_number(&answer)
             }
             Act::State(bytes) => {
                 desk = Desk::from_bytes(*bytes);
@@ -106,8 +124,10 @@ fn replay(sequence: &Sequence) -> Result<(), String> {
             "the memory".to_string()
         } else if !lent.untouched() {
             "a byte beside the memory".to_string()
-        } else if !list_kept {
-            "the list, or a byte beside it".to_string()
+        } else if !lists_kept {
+            "a list, or a byte beside it".to_string()
+        } else if !scratch_right {
+            "the scratch, or a byte beside it".to_string()
         } else {
             continue;
         };
@@ -168,4 +188,13 @@ fn random_lists() {
     let to = from + number("MIDESK_LISTS_COUNT", 2000) as u32;
     let sequences = (from..to).map(|index| lists::sequence(seed, index));
     replay_all("random lists", &format!("lists -- {seed} {to}"), from as usize, sequences);
+}
+
+#[test]
+fn random_pairs() {
+    let seed = number("MIDESK_SEED", 1);
+    let from = number("MIDESK_PAIRS_FIRST", 20000) as u32;
+    let to = from + number("MIDESK_PAIRS_COUNT", 2000) as u32;
+    let sequences = (from..to).map(|index| pairs::sequence(seed, index));
+    replay_all("random pairs", &format!("pairs -- {seed} {to}"), from as usize, sequences);
 }

@@ -2,7 +2,7 @@
 //! anything that document 01 or a request of document 02 names isn't reached.
 
 use model::cover::Cover;
-use model::{flag_table, list_table, shift_table, store, table};
+use model::{flag_table, joint_table, list_table, shift_table, store, table};
 
 fn main() {
     let path = std::env::args().nth(1).expect("usage: coverage FILE");
@@ -19,6 +19,7 @@ fn main() {
     table::entries(&cover, &mut all);
     table::refusals(&cover, &mut all);
     list_table::lists(&cover, &mut all);
+    joint_table::pairs(&cover, &mut all);
     flag_table::levels(&cover, &mut all);
     flag_table::flags(&cover, &mut all);
     shift_table::shifts(&cover, &mut all);

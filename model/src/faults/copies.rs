@@ -60,7 +60,7 @@ fn program(folder: &Path, name: &str, sources: &Sources, faults: &[(Fault, Sourc
         modules += "}\n";
         let call = |call| format!("{call}: {fault}::desk::{call}");
         let calls = ["fresh", "step", "run", "request"].map(call).join(", ");
-        let calls = format!("{calls}, load: {fault}::load::load");
+        let calls = format!("{calls}, load: {fault}::load::load, load_both: {fault}::joint::load_both");
         list += &format!("        (\"{fault}\", model::case::Desk {{ {calls} }}),\n");
     }
     let main = format!("fn main() {{\n    model::faults::play(&[\n{list}    ]);\n}}\n");

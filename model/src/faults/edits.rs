@@ -33,8 +33,8 @@ pub type Sources = BTreeMap<String, String>;
 
 /// The modules that make up the desk, and that a copy may have in its own form.
 /// `state` isn't among them: its types are those of the stored cases.
-pub const MODULES: [&str; 11] =
-    ["arith", "checks", "code", "commands", "desk", "entry", "load", "map", "notes", "operand", "work"];
+pub const MODULES: [&str; 12] =
+    ["arith", "checks", "code", "commands", "desk", "entry", "joint", "load", "map", "notes", "operand", "work"];
 
 /// The model's folder.
 pub fn folder() -> PathBuf {

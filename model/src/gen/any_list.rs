@@ -94,7 +94,7 @@ fn scrawl(rng: &mut Rng, length: u32) -> Vec<u8> {
 }
 
 /// Flips, cuts, inserts, removes, doubles or repeats something.
-fn damage(rng: &mut Rng, bytes: &mut Vec<u8>) {
+pub fn damage(rng: &mut Rng, bytes: &mut Vec<u8>) {
     let size = bytes.len() as u32;
     let at = rng.below(size + 1) as usize;
     let byte = if rng.chance(60) { rng.below(7) as u8 } else { rng.word() as u8 };
@@ -136,7 +136,7 @@ pub fn short_list(rng: &mut Rng, length: u32) -> Vec<u8> {
 }
 
 /// A list with about as many pieces as are allowed.
-fn long_list(rng: &mut Rng, length: u32) -> Vec<u8> {
+pub fn long_list(rng: &mut Rng, length: u32) -> Vec<u8> {
     let kind = rng.pick(&[0, 0, 0, 1, 2, 3]);
     let tame = rng.chance(80);
     let mut commands = row(rng, length, tame, 4_200, |rng| small_command(rng, kind));

@@ -8,6 +8,9 @@ use crate::load::Command::{self, *};
 use crate::rng::Rng;
 use crate::state::*;
 
+/// Parts of a program with their addresses.
+pub type Parts = Vec<(u32, Vec<u8>)>;
+
 /// Parts of a program, each with its own address, in pieces of all kinds.
 pub fn parts(rng: &mut Rng, parts: &[(u32, Vec<u8>)]) -> Vec<Command> {
     let mut commands = Vec::new();
@@ -71,28 +74,34 @@ pub fn programs() -> Vec<Case> {
     cases
 }
 
-/// A kernel, its blocks and a user program, all from one list. The program stores a value and calls the system, which
-/// halts; between the steps another list changes a command that is yet to run.
-fn user_program(rng: &mut Rng, round: u32) -> Case {
+/// What a kernel and a user program of two pages need in memory, and the program's commands, which go to 2048: it stores
+/// a value and calls the system, which halts.
+pub fn user_parts(rng: &mut Rng) -> (Parts, Vec<u8>) {
     let entries: Vec<u8> = (0..32).flat_map(|i| [0x600 + 8 * i, KERNEL]).flat_map(u32::to_be_bytes).collect();
     let map: Vec<u8> = [0xC000_0004u32, 0x8000_0005].into_iter().flat_map(u32::to_be_bytes).collect();
     let mut block = vec![0; 80];
     block[72..].copy_from_slice(&[384u32.to_be_bytes(), 2u32.to_be_bytes()].concat());
-    let value = rng.word();
     let user = [
-        command(0x12, &[immediate(value), absolute(0x100)]),
+        command(0x12, &[immediate(rng.word()), absolute(0x100)]),
         command(0x12, &[absolute(0x200), register(3)]),
         command(3, &[register(3)]),
     ];
-    let mut list_parts = vec![
+    let parts = vec![
         (0, entries),
         (256, block),
         (384, map),
         (512, command(5, &[absolute(256)])),
         (0x600, vec![0; 256]),
-        (2048, user.concat()),
         (2560, rng.word().to_be_bytes().to_vec()),
     ];
+    (parts, user.concat())
+}
+
+/// A kernel, its blocks and a user program, all from one list; between the steps another list changes a command that is
+/// yet to run.
+fn user_program(rng: &mut Rng, round: u32) -> Case {
+    let (mut list_parts, user) = user_parts(rng);
+    list_parts.insert(5, (2048, user));
     super::shuffle(rng, &mut list_parts);
     let mut maker = desk(rng, 3072);
     let commands = parts(rng, &list_parts);

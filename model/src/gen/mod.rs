@@ -2,6 +2,7 @@
 
 pub mod alarms;
 pub mod any_list;
+pub mod any_pair;
 pub mod entries;
 pub mod grid;
 pub mod layout;
@@ -10,6 +11,9 @@ pub mod list_refusals;
 pub mod lists;
 pub mod maker;
 pub mod orders;
+pub mod pair_programs;
+pub mod pair_refusals;
+pub mod pairs;
 pub mod pick;
 pub mod places;
 pub mod refusals;
@@ -73,5 +77,13 @@ pub fn all() -> Vec<(&'static str, Vec<Case>)> {
         ("load programs", list_programs::programs()),
         ("load mixed", lists::mixed()),
         ("shifts", shifts::shifts()),
+        ("both agreeing", pairs::agreeing()),
+        ("both earlier", pairs::earlier()),
+        ("both clashing", pairs::clashing()),
+        ("both lists", pair_refusals::lists()),
+        ("both scratches", pair_refusals::scratches()),
+        ("both orders", pair_refusals::orders()),
+        ("both programs", pair_programs::programs()),
+        ("both mixed", pairs::mixed()),
     ]
 }

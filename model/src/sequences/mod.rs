@@ -8,11 +8,13 @@
 
 pub mod acts;
 pub mod lists;
+pub mod pairs;
 pub mod program;
 pub mod random;
 pub mod session;
 pub mod stream;
 
+use crate::pair::{After, Pair};
 use crate::state::*;
 
 pub const STATE_BYTES: usize = 90;
@@ -73,6 +75,8 @@ pub enum Act {
     Length(u32),
     /// Loads a list into the memory.
     Load(Vec<u8>),
+    /// Loads two lists together into the memory, with a scratch of its own.
+    LoadBoth(Pair),
 }
 
 /// Bytes of the memory that a call changed.
@@ -84,13 +88,15 @@ pub struct Change {
 
 /// What a call answered and left. For a step the answer is kind × 2^32 +
 /// number (kind 0 done, 1 refused, 2 kernel entry, 3 stop), for the others
-/// the number of the refusal or 0; `steps` is a run's count, 0 for the others.
+/// the number of the refusal or 0; `steps` is a run's count, 0 for the others;
+/// `scratch` is joint loading's, `AsBefore` for the others.
 #[derive(Clone, PartialEq, Eq, Debug)]
 pub struct Left {
     pub answer: u64,
     pub steps: u64,
     pub state: StateBytes,
     pub changes: Vec<Change>,
+    pub scratch: After,
 }
 
 #[derive(Clone, PartialEq, Eq, Debug)]

@@ -40,8 +40,8 @@ pub fn sequence(seed: u64, index: u32) -> Sequence {
 /// How many sequences of loads there are of a seed.
 pub const LOADS: u32 = 600;
 
-/// Number `index` of them: random lists into memories of any length, and commands
-/// that come as a list and are then run.
+/// Number `index` of them: random lists into memories of any length, now and then
+/// pairs of them, and commands that come as a list or two and are then run.
 pub fn loads(seed: u64, index: u32) -> Sequence {
     let rng = &mut lists::numbers(seed, "loads", index);
     let known = known_bytes();
@@ -53,6 +53,11 @@ pub fn loads(seed: u64, index: u32) -> Sequence {
     };
     let mut session = lists::begin(rng, "loads", length);
     for _ in 0..lists::LOADS {
+        match rng.below(100) {
+            0..=11 => pairs::load_both(&mut session, rng),
+            12..=17 => pairs::program(&mut session, rng, &known),
+            _ => {}
+        }
         if rng.chance(75) {
             lists::load(&mut session, rng);
             continue;

@@ -4,6 +4,7 @@ use super::*;
 use crate::case::{Call, Case};
 use crate::checks;
 use crate::desk;
+use crate::joint;
 use crate::load;
 
 pub struct Session {
@@ -22,6 +23,11 @@ impl Session {
         self.sequence
     }
 
+    /// What is kept so far.
+    pub fn kept(&self) -> &Sequence {
+        &self.sequence
+    }
+
     pub fn calls(&self) -> usize {
         self.sequence.calls()
     }
@@ -34,6 +40,7 @@ impl Session {
     /// Makes a call and keeps what it left.
     pub fn call(&mut self, act: Act) {
         let before = self.memory.clone();
+        let mut scratch = After::AsBefore;
         let (answer, steps, state) = match act {
             Act::Fresh { system, control, start } => {
                 let answer = desk::fresh(self.memory.len() as u64, system, control, start);
@@ -61,9 +68,15 @@ impl Session {
                 let answer = load::load(&mut self.memory, list);
                 (u64::from(answer), 0, self.state)
             }
+            Act::LoadBoth(ref pair) => {
+                let (answer, after) = pair.load(joint::load_both, &mut self.memory);
+                scratch = after;
+                (u64::from(answer), 0, self.state)
+            }
             _ => panic!("no call"),
         };
-        let left = Left { answer, steps, state: packed(&state), changes: changes(&before, &self.memory) };
+        let changes = changes(&before, &self.memory);
+        let left = Left { answer, steps, state: packed(&state), changes, scratch };
         self.state = unpacked(&left.state);
         self.sequence.acts.push((act, Some(left)));
     }
@@ -113,6 +126,7 @@ impl Session {
                     Act::Fresh { system: *system, control: *control, start: *start }
                 }
                 Call::Load(list) => Act::Load(list.clone()),
+                Call::LoadBoth(pair) => Act::LoadBoth(pair.clone()),
             });
         }
         session

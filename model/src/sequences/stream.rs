@@ -22,7 +22,12 @@
 //!     5 memory    changes that the caller makes in the memory
 //!     6 length    u32 memory length from here on: cut, or longer by zeros
 //!     7 load      u32 n, then the n bytes of the list; then u32 answer
-//!   after 0 to 3 and 7: 90 bytes of state, and the changes of the memory by the call
+//!     8 load both u32 n, then the n bytes of the first list; the same for the second; then the
+//!                 scratch before the call: u32 length (at most 16,781,312), u8 first, u8 add; its
+//!                 byte i is (first + i × add) modulo 256; then u32 answer; then u8 scratch
+//!                 afterwards: 0 as before the call, 1 all zeros (where it was all zeros before,
+//!                 or has no bytes, 1 if the answer is 0 or 23, else 0)
+//!   after 0 to 3, 7 and 8: 90 bytes of state, and the changes of the memory by the call
 //!
 //! Changes:
 //!   u32       number of places, each:
@@ -41,6 +46,11 @@ fn u32_to(out: &mut Vec<u8>, value: u32) {
 
 fn u64_to(out: &mut Vec<u8>, value: u64) {
     out.extend(value.to_be_bytes());
+}
+
+fn list_to(out: &mut Vec<u8>, list: &[u8]) {
+    u32_to(out, list.len() as u32);
+    out.extend(list);
 }
 
 fn changes_to(out: &mut Vec<u8>, changes: &[Change]) {
@@ -83,8 +93,14 @@ fn act_to(out: &mut Vec<u8>, act: &Act, left: Option<&Left>) {
         }
         Act::Load(list) => {
             out.push(7);
-            u32_to(out, list.len() as u32);
-            out.extend(list);
+            list_to(out, list);
+        }
+        Act::LoadBoth(Pair { first, second, scratch }) => {
+            out.push(8);
+            list_to(out, first);
+            list_to(out, second);
+            u32_to(out, scratch.length);
+            out.extend([scratch.first, scratch.add]);
         }
     }
     let Some(left) = left else { return };
@@ -94,6 +110,9 @@ fn act_to(out: &mut Vec<u8>, act: &Act, left: Option<&Left>) {
     }
     if let Act::Run(_) = act {
         u64_to(out, left.steps);
+    }
+    if let Act::LoadBoth(_) = act {
+        out.push(left.scratch.number());
     }
     out.extend(left.state);
     changes_to(out, &left.changes);

@@ -4,6 +4,7 @@
 
 mod edits;
 mod forms;
+mod joint;
 mod lists;
 mod near;
 mod numbers;

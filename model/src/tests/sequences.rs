@@ -2,7 +2,9 @@
 
 use crate::case::play;
 use crate::gen;
+use crate::joint::load_both;
 use crate::load;
+use crate::pair::{After, Pair, Scratch};
 use crate::rng::Rng;
 use crate::sequences::session::Session;
 use crate::sequences::*;
@@ -46,7 +48,7 @@ fn changes_lead_from_old_to_new() {
 
 #[test]
 fn a_case_as_a_sequence_says_the_same() {
-    let lists = gen::list_programs::programs();
+    let lists = [gen::list_programs::programs(), gen::pair_programs::programs(), gen::pair_refusals::lists()].concat();
     for case in gen::entries::interrupts().iter().chain(&gen::refusals::refusals()).chain(&lists) {
         let expected = play(case);
         let sequence = Session::of_case("case", case).finish();
@@ -55,6 +57,7 @@ fn a_case_as_a_sequence_says_the_same() {
             let left = left.as_ref().unwrap();
             assert_eq!(left.state, packed(&outcome.state));
             assert_eq!(left.steps, u64::from(outcome.count));
+            assert_eq!(left.scratch, outcome.scratch);
             for change in &left.changes {
                 memory[change.at as usize..][..change.bytes.len()].copy_from_slice(&change.bytes);
             }
@@ -102,5 +105,78 @@ fn loads_among_other_calls() {
         assert!(sequence == random::loads(3, index));
         let loads = sequence.acts.iter().filter(|(act, _)| matches!(act, Act::Load(_))).count();
         assert_eq!(loads, lists::LOADS);
+    }
+}
+
+/// Joint loading by two loads: it succeeds where either order of them leaves the same memory.
+#[test]
+fn random_pairs_have_every_answer() {
+    let mut answers = std::collections::BTreeMap::new();
+    for index in 0..400 {
+        let sequence = pairs::sequence(3, index);
+        assert!(sequence == pairs::sequence(3, index));
+        let few = sequence.memory.len() > 1 << 20;
+        assert_eq!(sequence.calls(), if few { pairs::FEW } else { pairs::PAIRS });
+        let mut memory = sequence.memory.clone();
+        for (act, left) in &sequence.acts {
+            let (Act::LoadBoth(pair), Some(left)) = (act, left) else { panic!("no joint load") };
+            let [mut after, mut turned] = [memory.clone(), memory.clone()];
+            let alone = [load::load(&mut after, &pair.first), load::load(&mut turned, &pair.second)];
+            if alone == [0, 0] {
+                load::load(&mut after, &pair.second);
+                load::load(&mut turned, &pair.first);
+            }
+            let short = (pair.scratch.length as usize) < memory.len();
+            let answer = match alone {
+                [0, 0] if short => 22,
+                [0, 0] if after != turned => 23,
+                [0, number] => number,
+                [number, _] => number,
+            };
+            assert_eq!(left.answer, u64::from(answer));
+            for change in &left.changes {
+                memory[change.at as usize..][..change.bytes.len()].copy_from_slice(&change.bytes);
+            }
+            assert!(answer != 0 || memory == after);
+            assert!(answer == 0 || left.changes.is_empty());
+            assert_eq!(left.scratch == After::Zeros, matches!(answer, 0 | 23));
+            assert_eq!((left.state, left.steps), (sequence.state, 0));
+            *answers.entry(answer).or_insert(0) += 1;
+        }
+    }
+    assert_eq!(answers.keys().copied().collect::<Vec<_>>(), [0, 1, 17, 18, 19, 22, 23]);
+    assert!([0, 17, 22, 23].iter().all(|answer| answers[answer] > 250), "{answers:?}");
+}
+
+#[test]
+fn pairs_among_other_calls() {
+    let count = |sequence: &Sequence| sequence.acts.iter().filter(|(act, _)| matches!(act, Act::LoadBoth(_))).count();
+    let all: Vec<usize> = (0..60).map(|index| count(&random::loads(3, index))).collect();
+    assert!(all.iter().sum::<usize>() > 60 && all.contains(&0));
+}
+
+/// The stored form of a joint load, byte by byte.
+#[test]
+fn a_pair_in_the_stream() {
+    let mut session = Session::new("x", vec![9; 512], [7; STATE_BYTES]);
+    let scratch = Scratch { length: 515, first: 250, add: 3 };
+    for (second, refusal, after, changed) in [(0x22, 0, 1, true), (0x23, 23, 1, false)] {
+        let pair = Pair { first: vec![2, 0x22, 0], second: vec![2, second, 0], scratch };
+        let mut memory = session.memory.clone();
+        let mut bytes = scratch.bytes();
+        assert_eq!((bytes[0], bytes[1], bytes[2], bytes[514]), (250, 253, 0, (250 + 3 * 514) as u8));
+        assert_eq!(load_both(&mut memory, &pair.first, &pair.second, &mut bytes), refusal);
+        session.call(Act::LoadBoth(pair));
+        let stream = stream::body(session.kept());
+        let changes: &[u8] = if changed { &[0, 0, 0, 1, 0, 0, 0, 0, 0, 0, 0, 1, 0x22] } else { &[0, 0, 0, 0] };
+        let wanted = [
+            &[8, 0, 0, 0, 3, 2, 0x22, 0, 0, 0, 0, 3, 2, second, 0, 0, 0, 2, 3, 250, 3][..],
+            &refusal.to_be_bytes(),
+            &[after],
+            &[7; STATE_BYTES],
+            changes,
+        ]
+        .concat();
+        assert!(stream.ends_with(&wanted));
     }
 }

@@ -10,8 +10,8 @@ use lib.Seq.{length-sets}
 use Rattle.machine.specs.Map.{commit}
 use Rattle.lists.specs.Lists.{putsOf}
 use Rattle.lists.proofs.Reading.{width-positive, next-inside, restFrom}
-use Rattle.load.proofs.Putting.{end-small, soundFrom, putFrom, all-sound, all-put, more-puttable, more-sound}
-use Rattle.load.proofs.Putting.{more-put, end-put, unreadable-put}
+use Rattle.lists.proofs.Left.{soundFrom, leftFrom, all-sound, all-left, more-sound, end-left, unreadable-left}
+use Rattle.load.proofs.Putting.{end-small, more-puttable, more-put, none-put}
 use Rattle.load.proofs.put_all.Statement.{statement}
 use Rattle.load.proofs.put_all.Tie as tie
 
@@ -19,7 +19,7 @@ abbrev Inv-loop : tie.InvT-loop
 Inv-loop mem₀ list at₀ place₀ mem at place =
     (at ≤ length list) × (length mem ≡ length mem₀) × (place .0 < 0x1_0000_0000)
     × (soundFrom (length mem₀) (place .0) (restFrom list at) ≡ true)
-    × (putFrom mem (place .0) (restFrom list at) ≡ commit (putsOf list) mem₀)
+    × (commit (leftFrom list (place .0) at) mem ≡ commit (putsOf list) mem₀)
 
 abbrev μ-loop : tie.MeasureT-loop
 μ-loop mem₀ list at₀ place₀ mem at place = length list - at
@@ -27,7 +27,7 @@ abbrev μ-loop : tie.MeasureT-loop
 loop-holds : tie.Need-loop-holds Inv-loop μ-loop
 loop-holds c =
     let sound = c .before .before .pre in
-    (omega arith, refl, omega arith, all-sound _ _ (sound .whole) (sound .inside), all-put _ _)
+    (omega arith, refl, omega arith, all-sound _ _ (sound .whole) (sound .inside), rw all-left)
 
 put-requires : tie.Need-put-requires Inv-loop μ-loop
 put-requires c κs =
@@ -87,13 +87,13 @@ returns : tie.Need-returns Inv-loop μ-loop
 returns c =
     let looked = c .before .before in
     let turn = looked .before .loop in
-    sym (end-put _ _ _ _ (sym (looked .next-at .ensures) ∙ c .enum-told .given .1)) ∙ turn .inv .4
+    sym (none-put (end-left _ _ _ (sym (looked .next-at .ensures) ∙ c .enum-told .given .1)) _) ∙ turn .inv .4
 
 returns-2 : tie.Need-returns-2 Inv-loop μ-loop
 returns-2 c =
     let looked = c .before .before in
     let turn = looked .before .loop in
-    sym (unreadable-put _ _ _ _ (sym (looked .next-at .ensures) ∙ c .enum-told2 .given .1)) ∙ turn .inv .4
+    sym (none-put (unreadable-left _ _ _ (sym (looked .next-at .ensures) ∙ c .enum-told2 .given .1)) _) ∙ turn .inv .4
 
 pub put-all-spec : {M : Type 1} → statement M
 put-all-spec =
