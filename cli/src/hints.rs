@@ -1,11 +1,11 @@
-//! Where to look after an alarm: which map entry, which block, which rule; and after the refusal of a load list.
+//! Where to look after an alarm: which map entry, which block, which rule; and after the refusal of load lists.
 
 use crate::decode::{Fields, Trouble};
 use crate::diagnose::Finding;
 use crate::effect;
 use crate::forms;
 use crate::image;
-use crate::load::{self, Malformed, Wrong};
+use crate::load::{self, Clash, Malformed, Wrong};
 use crate::machine::{self, Known};
 use crate::neighbours;
 use crate::notation::hexadecimal;
@@ -199,8 +199,8 @@ pub fn rule_of(fields: &Fields, rule: Operand) -> Option<String> {
     }
 }
 
-/// Where to look in a load list that is refused.
-pub fn of_list(wrong: &Wrong, list: &[u8]) -> Hint {
+/// Where to look in a load list that is refused, alone or with another.
+pub fn of_list(wrong: &Wrong, list: &[u8], other: Option<&[u8]>) -> Hint {
     let text = match wrong {
         Wrong::Malformed(Malformed::Unknown { .. }) if image::is_text(list) => {
             "this is text; commented hexadecimal, whose name ends in .hex, becomes a list by `desk asm FILE.hex -o FILE.load`".to_string()
@@ -212,7 +212,7 @@ pub fn of_list(wrong: &Wrong, list: &[u8]) -> Hint {
             "the file's length: its end may be missing, or a command before it lack a byte".to_string()
         }
         Wrong::Malformed(Malformed::After { .. }) => {
-            "the 00h: where it is no end, a command before it has a byte too many; two lists are two files".to_string()
+            "the 00h: where it is no end, a command before it has a byte too many; two lists are two files, and --with takes the second".to_string()
         }
         Wrong::Pieces { .. } => {
             "how bytes are put: one 03h puts four bytes, one 04h up to 65,535 copies of a byte".to_string()
@@ -221,10 +221,28 @@ pub fn of_list(wrong: &Wrong, list: &[u8]) -> Hint {
             format!("the place, since no memory is longer than {}", load::length_words(image::LARGEST))
         }
         Wrong::Outside { .. } => {
-            format!("--memory, since all that the list puts needs {}", load::length_words(load::least_length(list)))
+            let (puts, length) = match other {
+                None => ("the list puts", load::least_length(list)),
+                Some(other) => ("the two lists put", load::least_length_of_both(list, other)),
+            };
+            format!("--memory, since all that {puts} needs {}", load::length_words(length))
         }
     };
     Hint::new("look at", text)
+}
+
+/// What to do about two load lists that clash.
+pub fn of_clash(clash: &Clash) -> Hint {
+    let all = match clash.count {
+        1 => "",
+        _ => "; `desk load FIRST --with SECOND` shows all addresses that clash",
+    };
+    let zeros = match (clash.first.0, clash.second.0) {
+        (0, _) | (_, 0) => "; a list that `desk asm` makes puts zeros for RES and ALI, and one for MEMORY",
+        _ => "",
+    };
+    let text = "which list has the right byte there: the other must put the same byte last, or none";
+    Hint::new("look at", format!("{text}{all}{zeros}"))
 }
 
 /// What there is instead of a command.

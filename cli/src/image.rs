@@ -96,18 +96,26 @@ pub const LARGEST: usize = 16_777_216;
 
 /// The image of a file. The memory is filled up with zeros to a multiple of 512, at least 512.
 pub fn load(path: &Path) -> Result<Image, Vec<Complaint>> {
-    load_into(path, None)
+    load_into(path, None, None)
 }
 
-/// The image of a file. A load list is loaded into a memory of this length, if one is given; the others do not heed it.
-pub fn load_into(path: &Path, length: Option<usize>) -> Result<Image, Vec<Complaint>> {
+/// The image of a file. A load list is loaded into a memory of this length, if one is given, and together with the second
+/// list, if there is one; the others do not heed that.
+pub fn load_into(path: &Path, second: Option<&Path>, length: Option<usize>) -> Result<Image, Vec<Complaint>> {
     let file = path.display().to_string();
     match ending(path).as_str() {
         "mi" => Ok(asm::assemble(&file, &text(path, read_whole(path)?)?)?.image),
         "hex" => named(&file, hex::bytes(&file, &read_whole(path)?)?, Vec::new()),
         crate::load::ENDING => {
             let list = read(path)?;
-            let memory = crate::load::memory(&list, length).map_err(|refused| refused.complaints(&file))?;
+            let memory = match second {
+                None => crate::load::memory(&list, length).map_err(|refused| refused.complaints(&file))?,
+                Some(second) => {
+                    let (other, name) = (read(second)?, second.display().to_string());
+                    let loaded = crate::load::both(&list, &other, length);
+                    loaded.map_err(|refused| refused.complaints(&file, &name))?
+                }
+            };
             named(&file, memory, Vec::new())
         }
         ending => {

@@ -53,14 +53,14 @@ pub fn warn(warnings: &[Complaint]) {
     }
 }
 
-/// Writes a file that is made from another, and gives the exit status. What it is made from is not written over.
-pub fn write(source: &str, target: &str, bytes: &[u8]) -> u8 {
+/// Writes a file that is made from others, and gives the exit status. What it is made from is not written over.
+pub fn write(sources: &[&str], target: &str, bytes: &[u8]) -> u8 {
     let shown = options::shown(target);
     if target.is_empty() {
         err("-o needs the name of a file, and an empty one is given\n");
         return USAGE;
     }
-    if is_same_file(source, target) {
+    if sources.iter().any(|source| is_same_file(source, target)) {
         err(&format!("{shown}: this is the file that is read; it is left as it is: give -o another name\n"));
         return USAGE;
     }

@@ -1,6 +1,7 @@
 //! From a file and options to a desk: what `run`, `debug`, `map` and `picture` share.
 
 use crate::image::{self, Image};
+use crate::load;
 use crate::machine::Machine;
 use crate::options::{self, Given};
 use crate::{output, words};
@@ -12,12 +13,35 @@ pub fn refusal_status(refusal: Refusal) -> u8 {
     32 + refusal.number() as u8
 }
 
+/// The file that a verb is given.
+pub fn file(given: &Given) -> &str {
+    given.operands.first().map_or("", String::as_str)
+}
+
+/// It and, with --with, the second one.
+pub fn files(given: &Given) -> Vec<&str> {
+    std::iter::once(file(given)).chain(given.value("--with")).collect()
+}
+
+/// The second list that --with names: it and the file must be load lists by their names.
+fn second(given: &Given) -> Result<Option<&Path>, String> {
+    let Some(second) = given.value("--with") else { return Ok(None) };
+    match files(given).into_iter().find(|file| image::ending(Path::new(file)) != load::ENDING) {
+        None => Ok(Some(Path::new(second))),
+        Some(other) => {
+            let other = options::clean(other);
+            Err(format!("--with takes load lists, and '{other}' is none: its name does not end in .{}", load::ENDING))
+        }
+    }
+}
+
 /// The image of the file, with memory, blocks and start as the options say; else the exit status, after a sentence.
 pub fn image(verb: &str, given: &Given) -> Result<Image, u8> {
-    let file = given.operands.first().map_or("", String::as_str);
     let usage = |sentence: String| options::usage(verb, &sentence);
     let length = memory_length(given).map_err(usage)?;
-    let mut image = read(file, length)?;
+    let second = second(given).map_err(usage)?;
+    let read = image::load_into(Path::new(file(given)), second, length);
+    let mut image = read.map_err(|complaints| output::complain(&complaints))?;
     output::warn(&image.warnings);
     apply(&mut image, given, length).map_err(usage)?;
     if let Some(words) = doubtful_start(&image).filter(|_| given.has("--start")) {
@@ -56,10 +80,6 @@ pub fn machine(verb: &str, given: &Given) -> Result<Machine, u8> {
         output::err(&format!("desk {verb}: refusal {}: {refusal} ({what})\n", refusal.number()));
         refusal_status(refusal)
     })
-}
-
-fn read(file: &str, length: Option<usize>) -> Result<Image, u8> {
-    image::load_into(Path::new(file), length).map_err(|complaints| output::complain(&complaints))
 }
 
 /// The length that --memory gives.

@@ -28,7 +28,7 @@ pub const TOPICS: &[Topic] = &[
             Table(&[
                 (".mi", "a source in MI's notation; `desk help asm` tells of it"),
                 (".hex", "bytes in hexadecimal digits, 64*00 for 64 times 00, remarks from # on"),
-                (".load", "a load list, which the library loads into a memory of zeros; `desk help load` tells of it"),
+                (".load", "a load list, which the library loads into a memory of zeros, with --with together with a second one; `desk help load` tells of it"),
                 ("others", "the bytes themselves, from real address 0 on; where they look like text the name must end in .bin"),
             ]),
             Say("Where the file does not say otherwise, the system block is at 0, the control block at 100h, and the desk starts at 200h in kernel mode, as under the repository's `trace`. The machine's manual is docs/MACHINE.md in the repository; `desk help memory` and `desk help stops` tell the most needed of it."),
@@ -53,7 +53,7 @@ pub const TOPICS: &[Topic] = &[
         text: &[
             Say("In user mode an alarm is the cause of a kernel entry; its argument stands in the control block. In kernel mode an alarm stops the desk."),
             Table(STOPS),
-            Say("The library refuses, with desk and memory as they were (a number up to 7 is of the desk, 17 to 19 of a load list):"),
+            Say("The library refuses, with desk and memory as they were (a number up to 7 is of the desk, 17 to 19 of a load list, 22 and 23 of two):"),
             Table(REFUSALS),
         ],
     },
@@ -69,6 +69,7 @@ pub const TOPICS: &[Topic] = &[
              desk debug examples/isolation.mi\n\
              desk map examples/isolation.mi\n\
              desk load examples/parts.load\n\
+             desk run examples/lookup.load --with examples/table.load\n\
              desk picture examples/isolation.mi -o isolation.svg",
         )],
     },
@@ -114,13 +115,18 @@ const REFUSALS: &[(&str, &str)] = &[
     ("17", "a load list with an unknown command, cut short, or with bytes after its end"),
     ("18", "a load list with more than 4,096 pieces"),
     ("19", "a load list that puts a byte outside memory"),
+    ("22", "two load lists with a scratch that is shorter than the memory; `desk` lends one that is as long"),
+    ("23", "two load lists that clash: at an address that both put, their last bytes differ"),
 ];
 
 /// What the exit status tells.
 const STATUSES: &[(&str, &str)] = &[
     ("0", "the program ended with HALT; of other verbs than run: it is done"),
     ("8, 12 to 16", "run: the program ended with the stop of that number"),
-    ("32 + number", "the library refused: 33 to 39 for refusals 1 to 7, 49 to 51 for 17 to 19"),
+    (
+        "32 + number",
+        "the library refused: 33 to 39 for refusals 1 to 7, 49 to 51 for 17 to 19, 54 and 55 for 22 and 23",
+    ),
     ("64", "the arguments do not fit"),
     ("65", "a file's content is not usable; messages say where"),
     ("66", "a file cannot be read"),

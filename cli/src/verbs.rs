@@ -61,7 +61,9 @@ const fn output(text: &'static str) -> Opt {
 }
 
 const MEMORY: Opt =
-    with("--memory", "BYTES", "the memory's length; without it that of FILE, in whole frames; of a load list up to the last byte that it puts. The rest is zeros");
+    with("--memory", "BYTES", "the memory's length; without it that of FILE, in whole frames; of load lists up to the last byte that they put. The rest is zeros");
+const WITH: Opt =
+    with("--with", "SECOND.load", "a second load list, which is loaded together with FILE, a load list too");
 const SYSTEM: Opt = with("--system", "ADDRESS", "where the system block is, if not where FILE has it");
 const CONTROL: Opt = with("--control", "ADDRESS", "where the first control block is, if not where FILE has it");
 const START: Opt = with("--start", "ADDRESS", "R15 of the fresh desk, if not as FILE has it");
@@ -76,6 +78,7 @@ pub const VERBS: &[Verb] = &[
         summary: "runs a program on a fresh desk and says in words how it ended",
         options: &[
             with("--steps", "N", "at most N steps; without it at most 1,000,000,000"),
+            WITH,
             MEMORY,
             SYSTEM,
             CONTROL,
@@ -133,6 +136,7 @@ pub const VERBS: &[Verb] = &[
         options: &[
             with("--script", "SCRIPT", "takes the lines from this file instead of standard input"),
             flag("--echo", "writes each line that it takes, behind a prompt, where none is typed at a terminal"),
+            WITH,
             MEMORY,
             SYSTEM,
             CONTROL,
@@ -153,6 +157,7 @@ pub const VERBS: &[Verb] = &[
         options: &[
             output("writes the listing to FILE instead of standard output"),
             flag("--plain", "without the columns of addresses and bytes: for a source that is to be changed"),
+            WITH,
             MEMORY,
             SYSTEM,
             CONTROL,
@@ -187,17 +192,21 @@ pub const VERBS: &[Verb] = &[
         operands: "FILE",
         count: (1, 1),
         summary: "says in words what a load list puts where, and what is wrong with it",
-        options: &[with(
-            "--memory",
-            "BYTES",
-            "the length of the memory that it is tried on; without it whole frames up to the last byte that it puts",
-        )],
+        options: &[
+            with("--with", "SECOND.load", "a second load list: says what both put, and whether they load together"),
+            with(
+                "--memory",
+                "BYTES",
+                "the length of the memory that it is tried on; without it whole frames up to the last byte that is put",
+            ),
+        ],
         text: &[
             Say("A load list is a row of commands that put bytes into a memory; what they do not put stays. Each is a byte with what stands behind it, numbers highest byte first:"),
             Table(&crate::load::SUMMARY),
             Say("What is put goes to the place, which is 0 at the start and moves on behind it; a later put wins. The commands that put are the pieces, of which there may be 4,096. The library takes a list whole or refuses it, and then the memory is as it was: `desk help stops` has the numbers, 17 to 19."),
             Say("A line is the offset in the list, from 0, and the bytes, in hexadecimal as before the bar of a listing, and behind the bar what the command does, bytes behind a colon in hexadecimal too. Then come what all pieces put, the addresses, and what the library says to the list; the exit status is that of a refusal where it is refused."),
             Say("FILE is taken as a list whatever it is called, but for commented hexadecimal (.hex), whose bytes are the list. The other verbs take a FILE that ends in .load as a list and go on with the memory that it loads; `desk asm SOURCE -o FILE.load` makes one."),
+            Say("With --with the library loads two lists together: at each address the memory gets the last byte that either list puts there. Where both put an address their last bytes there must be equal, else they clash, refusal 23; bytes that a list puts over itself do not count. Each list may have 4,096 pieces. `desk load FIRST --with SECOND` says what each puts, which addresses both put, whether they load together, and else which list is wrong or where they clash; `desk load FILE` shows the commands of each."),
         ],
     },
     Verb {
@@ -205,7 +214,7 @@ pub const VERBS: &[Verb] = &[
         operands: "FILE",
         count: (1, 1),
         summary: "says in words which frames each program reaches, and what it may do there",
-        options: &[STEPS_BEFORE, MEMORY, SYSTEM, CONTROL, START],
+        options: &[STEPS_BEFORE, WITH, MEMORY, SYSTEM, CONTROL, START],
         text: &[
             Say("For each program: its control block and, page by page, the frame, whether the program may read, write and run it, who else reaches it, and what is wrong with a damaged entry. Then the kernel's entries from the system block."),
             Say("The programs are those that a source names. Of other files they are the blocks that RESUME names in the first 100,000 steps of a trial run."),
@@ -219,6 +228,7 @@ pub const VERBS: &[Verb] = &[
         options: &[
             output("the file for the picture; without it standard output"),
             STEPS_BEFORE,
+            WITH,
             MEMORY,
             SYSTEM,
             CONTROL,

@@ -15,11 +15,13 @@ const ALARMS: &[(u32, &str, &str)] = &[
     (15, "DIV by zero", "DIV by zero"),
 ];
 
-/// What a number says as the refusal of a load list.
+/// What a number says as the refusal of a load list, or of two.
 const LIST_REFUSALS: &[(u32, &str)] = &[
     (17, "an unknown command, a list cut short, or bytes after its end"),
     (18, "more than 4,096 pieces"),
     (19, "a put outside memory"),
+    (22, "a scratch shorter than the memory"),
+    (23, "two unequal last bytes at one address"),
 ];
 
 /// A cause of a kernel entry: `alarm 9, an absent page`.
@@ -50,7 +52,7 @@ pub fn alarm(number: u32, kernel: bool) -> String {
     }
 }
 
-/// The refusal of a load list.
+/// The refusal of a load list, or of two.
 pub fn list_refusal(number: u32) -> &'static str {
     let row = LIST_REFUSALS.iter().find(|(known, _)| *known == number);
     row.map_or("a number that this version has no words for", |(_, words)| words)
@@ -222,7 +224,7 @@ mod tests {
             assert!(!stop(number).contains("no words"), "{number}");
         }
         assert!(cause(7).contains("no words"));
-        for number in 17..=19 {
+        for number in (17..=19).chain(22..=23) {
             assert!(!list_refusal(number).contains("no words"), "{number}");
         }
         assert!(list_refusal(20).contains("no words"));

@@ -83,3 +83,15 @@ fn the_load_list_is_printed_so() {
     assert_eq!(load::memory(&list, None).expect("a memory")[0x200..0x207], *b"AbCD...");
     assert_eq!(load::memory(&list, Some(512)).expect_err("a refusal").refusal.number(), 19);
 }
+
+/// What is said of two lists that clash.
+#[test]
+fn the_clash_is_printed_so() {
+    let block = block_behind(&manual(), "--with examples/table_clash.load` prints:");
+    let files = ["examples/lookup.load", "examples/table_clash.load"];
+    let lists = files.map(|file| std::fs::read(repository().join(file)).expect("the list"));
+    let mut out = Vec::new();
+    let status = load::show_both(&mut out, (files[0], &lists[0]), (files[1], &lists[1]), None);
+    assert_eq!(status.expect("memory can be written"), 55);
+    assert_eq!(String::from_utf8(out).expect("UTF-8"), format!("{}\n", block.join("\n")));
+}

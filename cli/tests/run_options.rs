@@ -8,12 +8,14 @@ use desk::plan::Plan;
 use desk::verbs::VERBS;
 use support::{images, Random};
 
-const WORDS: [&str; 30] = [
+const WORDS: [&str; 32] = [
     "a.mi",
     "--steps",
     "--steps=",
     "--steps=7",
     "--memory",
+    "--with",
+    "--with=b.load",
     "--request",
     "5@20",
     "5@",

@@ -126,7 +126,7 @@ fn help_without_arguments() {
     assert!(status == 0 && overview.contains("desk run FILE"));
     assert_eq!(said(&["run", "--help"]), said(&["help", "run"]));
     assert_eq!(said(&["--help"]).0, overview);
-    assert_eq!(said(&["--version"]), ("desk 2.0.0, over libmidesk 2.0.0\n".to_string(), 0));
+    assert_eq!(said(&["--version"]), ("desk 2.1.0, over libmidesk 2.1.0\n".to_string(), 0));
     assert!(said(&["help", "stops"]).0.contains("17 to 31"));
     let (sentence, status) = refused(&["help", "fly"]);
     assert!(status == 64 && sentence.contains("there is no verb 'fly'"), "{sentence}");

@@ -22,7 +22,7 @@ pub fn main(arguments: &[String]) -> u8 {
             bytes
         }
     };
-    let status = output::write(source, target, &bytes);
+    let status = output::write(&[source], target, &bytes);
     if status == 0 && std::io::stderr().is_terminal() {
         output::err(&format!("{}: {} bytes\n", options::shown(target), bytes.len()));
     }

@@ -11,14 +11,15 @@ pub fn main(arguments: &[String]) -> u8 {
         Ok(image) => image,
         Err(status) => return status,
     };
-    let title = given.operands.first().map_or("", String::as_str);
+    let files = setup::files(&given);
+    let title = files.iter().map(|file| options::shown(file)).collect::<Vec<_>>().join(" with ");
     let text = match given.has("--plain") {
-        true => super::plain(&image, &options::shown(title)),
-        false => super::listing(&image, &options::shown(title)),
+        true => super::plain(&image, &title),
+        false => super::listing(&image, &title),
     };
     match given.value("--output") {
         None if output::out(&text) => 0,
         None => output::CANNOT_WRITE,
-        Some(target) => output::write(title, target, text.as_bytes()),
+        Some(target) => output::write(&files, target, text.as_bytes()),
     }
 }

@@ -87,6 +87,15 @@ impl Put<'_> {
         self.place + self.count()
     }
 
+    /// The byte that it puts at an address, if it puts one there.
+    pub fn byte_at(&self, address: u64) -> Option<u8> {
+        let at = address.checked_sub(self.place).filter(|at| *at < self.count())?;
+        match self.content {
+            Content::Bytes(bytes) => bytes.get(at as usize).copied(),
+            Content::Copies { byte, .. } => Some(byte),
+        }
+    }
+
     /// Whether it puts a byte past a memory of this length.
     pub fn is_outside(&self, length: usize) -> bool {
         self.count() > 0 && self.end() > length as u64

@@ -10,8 +10,8 @@ use midesk::Refusal;
 #[derive(Clone, PartialEq, Eq, Debug)]
 pub struct Refused<'a> {
     pub refusal: Refusal,
-    list: &'a [u8],
-    length: usize,
+    pub(super) list: &'a [u8],
+    pub(super) length: usize,
 }
 
 /// A memory of zeros, of this length or of the least that the list needs, with the list loaded.
@@ -39,24 +39,32 @@ impl<'a> Refused<'a> {
 
     /// `refusal 17: an unknown command: byte 12 (Ch) of the list is 07h, ..`.
     pub fn words(&self) -> String {
-        let number = self.refusal.number();
-        let what = match (self.wrong(), self.refusal) {
+        format!("refusal {}: {}", self.refusal.number(), self.what())
+    }
+
+    /// The same without its number.
+    pub(super) fn what(&self) -> String {
+        match (self.wrong(), self.refusal) {
             (Some(wrong), _) => wrong.words(),
             (None, Refusal::Length) => format!("{} ({})", self.refusal, words::memory_length(self.length)),
-            (None, _) => words::list_refusal(number).to_string(),
-        };
-        format!("refusal {number}: {what}")
+            (None, refusal) => words::list_refusal(refusal.number()).to_string(),
+        }
     }
 
     /// Where to look.
     pub fn hint(&self) -> Option<String> {
-        self.wrong().map(|wrong| hints::of_list(&wrong, self.list).line())
+        self.wrong().map(|wrong| hints::of_list(&wrong, self.list, None).line())
     }
 
     /// What is told of the file.
     pub fn complaints(&self, file: &str) -> Vec<Complaint> {
-        let sentences = std::iter::once(self.words()).chain(self.hint());
-        let reason = Reason::Refused(self.refusal);
-        sentences.map(|sentence| Complaint { reason, ..complaint(file, 0, 0, sentence) }).collect()
+        complaints(file, self.refusal, self.words(), self.hint())
     }
+}
+
+/// What is told of a file, or of two, that the library refused.
+pub(super) fn complaints(file: &str, refusal: Refusal, words: String, hint: Option<String>) -> Vec<Complaint> {
+    let sentences = std::iter::once(words).chain(hint);
+    let reason = Reason::Refused(refusal);
+    sentences.map(|sentence| Complaint { reason, ..complaint(file, 0, 0, sentence) }).collect()
 }

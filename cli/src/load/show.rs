@@ -22,9 +22,7 @@ pub fn show(out: &mut dyn Write, title: &str, list: &[u8], length: Option<usize>
     }
     let answer = memory::memory(list, length);
     writeln!(out, "\n{}", totals.words(answer.is_ok()))?;
-    for (from, to) in totals.covered.ranges() {
-        writeln!(out, "  {}: {}", written::range(from, to), written::bytes(to - from))?;
-    }
+    ranges(out, &totals.covered)?;
     match answer {
         Ok(memory) => {
             let least = if length.is_none() { ", the shortest that holds it" } else { "" };
@@ -32,24 +30,47 @@ pub fn show(out: &mut dyn Write, title: &str, list: &[u8], length: Option<usize>
             Ok(0)
         }
         Err(refused) => {
-            let hint = refused.hint().map(|hint| words::folded(&hint, 2, 4));
-            for line in words::folded(&refused.words(), 0, 2).into_iter().chain(hint.into_iter().flatten()) {
-                writeln!(out, "{line}")?;
-            }
+            refusal(out, &refused.words(), refused.hint())?;
             Ok(setup::refusal_status(refused.refusal))
         }
     }
 }
 
+/// Ranges of addresses, a line for each.
+pub(super) fn ranges(out: &mut dyn Write, covered: &Covered) -> io::Result<()> {
+    for (from, to) in covered.ranges() {
+        writeln!(out, "  {}: {}", written::range(from, to), written::bytes(to - from))?;
+    }
+    Ok(())
+}
+
+/// A refusal in lines that fit, and below it where to look.
+pub(super) fn refusal(out: &mut dyn Write, said: &str, hint: Option<String>) -> io::Result<()> {
+    let hint = hint.map(|hint| words::folded(&hint, 2, 4));
+    for line in words::folded(said, 0, 2).into_iter().chain(hint.into_iter().flatten()) {
+        writeln!(out, "{line}")?;
+    }
+    Ok(())
+}
+
 /// What the pieces put. Where there are more than a list may have, `covered` is that of the first ones.
 #[derive(Default)]
-struct Totals {
+pub(super) struct Totals {
     pieces: u64,
     bytes: u64,
-    covered: Covered,
+    pub(super) covered: Covered,
 }
 
 impl Totals {
+    /// Those of a list, up to what makes it none.
+    pub(super) fn of(list: &[u8]) -> Totals {
+        let mut totals = Totals::default();
+        for command in commands::commands(list).map_while(Result::ok) {
+            totals.add(&command);
+        }
+        totals
+    }
+
     /// Adds a command; answers whether it puts a byte where an earlier one has put one.
     fn add(&mut self, command: &Command) -> bool {
         let Action::Put(put) = command.action else { return false };
@@ -58,7 +79,8 @@ impl Totals {
         put.piece <= MOST_PIECES && put.count() > 0 && self.covered.add(put.place, put.end())
     }
 
-    fn words(&self, loads: bool) -> String {
+    /// `35 pieces put 173 bytes at 168 addresses:`.
+    pub(super) fn words(&self, loads: bool) -> String {
         let put = match (loads, self.pieces) {
             (false, _) => "would put",
             (true, 1) => "puts",

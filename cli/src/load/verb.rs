@@ -1,4 +1,4 @@
-//! `desk load FILE`.
+//! `desk load FILE`, and `desk load FIRST --with SECOND`.
 
 use crate::image::{self, complaint, Complaint};
 use crate::{hex, options, output, setup};
@@ -14,14 +14,37 @@ pub fn main(arguments: &[String]) -> u8 {
         Ok(length) => length,
         Err(sentence) => return options::usage("load", &sentence),
     };
-    let file = given.operands.first().map_or("", String::as_str);
-    let list = match list(file) {
-        Ok(list) => list,
-        Err(complaints) => return output::complain(&complaints),
-    };
+    let file = setup::file(&given);
+    match given.value("--with") {
+        None => match list(file) {
+            Ok(list) => written(|out| super::show(out, &options::shown(file), &list, length)),
+            Err(complaints) => output::complain(&complaints),
+        },
+        Some(second) => {
+            if let Some(source) = [file, second].into_iter().find(|file| is_source(file)) {
+                let source = options::clean(source);
+                let sentence = format!("--with takes load lists, and '{source}' is a source; `desk asm` makes lists");
+                return options::usage("load", &sentence);
+            }
+            match list(file).and_then(|first| Ok((first, list(second)?))) {
+                Ok((one, other)) => {
+                    let (first, second) = (options::clean(file), options::clean(second));
+                    written(|out| super::show_both(out, (&first, &one), (&second, &other), length))
+                }
+                Err(complaints) => output::complain(&complaints),
+            }
+        }
+    }
+}
+
+/// Writes to standard output, and gives the exit status.
+fn written(write: impl Fn(&mut dyn Write) -> io::Result<u8>) -> u8 {
     let mut out = BufWriter::new(io::stdout().lock());
-    let shown = super::show(&mut out, &options::shown(file), &list, length);
-    shown.and_then(|status| out.flush().map(|()| status)).unwrap_or(output::CANNOT_WRITE)
+    write(&mut out).and_then(|status| out.flush().map(|()| status)).unwrap_or(output::CANNOT_WRITE)
+}
+
+fn is_source(file: &str) -> bool {
+    image::ending(Path::new(file)) == "mi"
 }
 
 /// The bytes of a list, whatever its name is; of commented hexadecimal the bytes that it gives.

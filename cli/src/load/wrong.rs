@@ -121,6 +121,6 @@ fn named(byte: u8) -> String {
     format!("{} ({name})", words::byte(u32::from(byte)))
 }
 
-fn command(command: &Command) -> String {
+pub fn command(command: &Command) -> String {
     named(command.bytes.first().copied().unwrap_or(0))
 }

@@ -11,6 +11,7 @@ use crate::machine::Machine;
 use crate::map;
 use crate::options;
 use crate::output;
+use crate::setup;
 use std::path::Path;
 
 /// `desk picture FILE [OPTION]..`.
@@ -19,20 +20,21 @@ pub fn main(arguments: &[String]) -> u8 {
         Ok(all) => all,
         Err(status) => return status,
     };
-    let file = given.operands.first().map_or("", String::as_str);
-    let picture = of(&machine, &fresh, &title(file));
+    let files = setup::files(&given);
+    let names: Vec<String> = files.iter().map(|file| name(file)).collect();
+    let picture = of(&machine, &fresh, &options::shown(&names.join(" with ")));
     match given.value("--output") {
         None => match output::out(&picture) {
             true => 0,
             false => output::CANNOT_WRITE,
         },
-        Some(path) => output::write(file, path, picture.as_bytes()),
+        Some(path) => output::write(&files, path, picture.as_bytes()),
     }
 }
 
-fn title(file: &str) -> String {
+fn name(file: &str) -> String {
     let name = Path::new(file).file_name().map(|name| name.to_string_lossy().into_owned());
-    options::shown(&name.unwrap_or_else(|| file.to_string()))
+    name.unwrap_or_else(|| file.to_string())
 }
 
 /// The picture of a machine's memory.

@@ -1,10 +1,11 @@
 //! The examples that are sources, by name.
 
-pub const EXAMPLES: [&str; 10] = [
+pub const EXAMPLES: [&str; 11] = [
     "division",
     "factorial",
     "fibonacci",
     "isolation",
+    "lookup",
     "minimum",
     "minimum_cmp",
     "shift",
