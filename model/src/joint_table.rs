@@ -269,12 +269,7 @@ impl Joint {
 }
 
 fn row<K: Ord>(table: &mut Table, counts: &Counts<K>, name: &str, cells: Vec<(K, bool)>) {
-    let mut line = format!("  {name:50}");
-    for (column, (key, wanted)) in cells.into_iter().enumerate() {
-        let cell = table.cell(counts, key, wanted, format!("joint loading, {name}, column {}", column + 1));
-        line += &format!("{cell:>8}");
-    }
-    println!("{line}");
+    table.row(counts, "joint loading", name, 50, cells);
 }
 
 /// Rows of one cell each.

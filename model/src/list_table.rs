@@ -243,12 +243,7 @@ const DONE: [(&str, &[u8]); 15] = [
 ];
 
 fn row<K: Ord>(table: &mut Table, counts: &Counts<K>, name: &str, cells: Vec<(K, bool)>) {
-    let mut line = format!("  {name:40}");
-    for (column, (key, wanted)) in cells.into_iter().enumerate() {
-        let cell = table.cell(counts, key, wanted, format!("load list, {name}, column {}", column + 1));
-        line += &format!("{cell:>8}");
-    }
-    println!("{line}");
+    table.row(counts, "load list", name, 40, cells);
 }
 
 pub fn lists(cover: &Cover, table: &mut Table) {

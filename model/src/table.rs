@@ -28,6 +28,16 @@ impl Table {
         }
         count.to_string()
     }
+
+    /// Prints a row of cells behind its name, which has so much room.
+    pub fn row<K: Ord>(&mut self, counts: &Counts<K>, subject: &str, name: &str, room: usize, cells: Vec<(K, bool)>) {
+        let mut line = format!("  {name:room$}");
+        for (column, (key, wanted)) in cells.into_iter().enumerate() {
+            let cell = self.cell(counts, key, wanted, format!("{subject}, {name}, column {}", column + 1));
+            line += &format!("{cell:>8}");
+        }
+        println!("{line}");
+    }
 }
 
 const ROLES: [(&str, Role); 4] = [

@@ -31,6 +31,19 @@ pub fn parts(rng: &mut Rng, parts: &[(u32, Vec<u8>)]) -> Vec<Command> {
     commands
 }
 
+/// A program that adds two numbers, stores the sum and halts.
+pub fn addition(rng: &mut Rng) -> Vec<u8> {
+    let [a, b] = [rng.word(), rng.below(1_000)];
+    let x = 1 + rng.below(12) as u8;
+    let code = [
+        command(0x12, &[immediate(a), register(x)]),
+        command(0x42, &[immediate(b), register(x)]),
+        command(0x12, &[register(x), absolute(0x300)]),
+        vec![0],
+    ];
+    code.concat()
+}
+
 /// Programs that are loaded and then run; loads and refused loads between runs.
 pub fn programs() -> Vec<Case> {
     let mut rng = family_rng("load programs");
@@ -38,16 +51,9 @@ pub fn programs() -> Vec<Case> {
     let mut cases = Vec::new();
     let fresh = Call::Fresh { system: 0, control: 256, start: 512 };
     for round in 0..12 {
-        let [a, b] = [rng.word(), rng.below(1_000)];
-        let x = 1 + rng.below(12) as u8;
-        let code = [
-            command(0x12, &[immediate(a), register(x)]),
-            command(0x42, &[immediate(b), register(x)]),
-            command(0x12, &[register(x), absolute(0x300)]),
-            vec![0],
-        ];
+        let code = addition(rng);
         let mut maker = desk(rng, 1024);
-        let commands = parts(rng, &[(512, code.concat())]);
+        let commands = parts(rng, &[(512, code)]);
         maker.call(Call::Load(list(&commands)));
         maker.call(fresh.clone());
         maker.call(Call::Run(10));

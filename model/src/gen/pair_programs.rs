@@ -1,7 +1,7 @@
 //! Programs that come in two load lists and are run.
 
 use super::family_rng;
-use super::list_programs::{parts, user_parts, Parts};
+use super::list_programs::{addition, parts, user_parts, Parts};
 use super::lists::desk;
 use super::pairs::together;
 use super::shuffle;
@@ -50,16 +50,9 @@ pub fn programs() -> Vec<Case> {
     let mut cases = Vec::new();
     let fresh = Call::Fresh { system: 0, control: 256, start: 512 };
     for round in 0..12 {
-        let [a, b] = [rng.word(), rng.below(1_000)];
-        let x = 1 + rng.below(12) as u8;
-        let code = [
-            command(0x12, &[immediate(a), register(x)]),
-            command(0x42, &[immediate(b), register(x)]),
-            command(0x12, &[register(x), absolute(0x300)]),
-            vec![0],
-        ];
+        let code = addition(rng);
         let mut maker = desk(rng, 1024);
-        let all = cut(rng, 512, &code.concat());
+        let all = cut(rng, 512, &code);
         let [first, second] = dealt(rng, all);
         let call = together(rng, 1024, first, second);
         maker.call(call);
