@@ -3,7 +3,7 @@
 use crate::contender::{Contender, CONTENDERS};
 use crate::plain;
 use crate::state::{State, KERNEL, RUNNING};
-use model::map::{lookup, Access, Virtual};
+use model::map::{lookup, Reason, Virtual};
 use model::rng::Rng;
 
 const LENGTH: usize = 8192;
@@ -11,6 +11,8 @@ const SYSTEM_BLOCK: u32 = 0;
 const CONTROL_BLOCK: u32 = 256;
 const MAP: u32 = 4096;
 const PAGES: u32 = 16;
+/// The bit of an entry of the map that forbids fetching.
+const NO_FETCH: u32 = 0x2000_0000;
 
 /// An address near the end of a page, or anywhere.
 fn address(rng: &mut Rng) -> u32 {
@@ -67,6 +69,11 @@ fn put(memory: &mut [u8], address: u32, word: u32) {
     memory[at..at + 4].copy_from_slice(&word.to_be_bytes());
 }
 
+fn get(memory: &[u8], address: u32) -> u32 {
+    let at = address as usize;
+    u32::from_be_bytes(memory[at..at + 4].try_into().unwrap())
+}
+
 /// Memory and state with a program somewhere in pages 2 to 4.
 fn case(rng: &mut Rng) -> (Vec<u8>, State) {
     let mut memory = vec![0; LENGTH];
@@ -82,17 +89,20 @@ fn case(rng: &mut Rng) -> (Vec<u8>, State) {
     }
     for page in 0..PAGES {
         let code = (2..5).contains(&page) && rng.chance(80);
-        let entry = match rng.below(24) {
+        let mut entry = match rng.below(24) {
             _ if code => 0xC000_0000 | page,
             0 => rng.below(0x8000_0000),
-            1 => 0xC000_0000 | rng.below(PAGES) | 1 << (24 + rng.below(6)),
+            1 => 0xC000_0000 | rng.below(PAGES) | 1 << (24 + rng.below(5)),
             2 => 0x8000_0000 | rng.below(PAGES),
             3 => 0xC000_0000 | PAGES << rng.below(12),
             _ => 0xC000_0000 | rng.below(PAGES),
         };
+        if rng.chance(if code { 10 } else { 30 }) {
+            entry |= NO_FETCH;
+        }
         put(&mut memory, MAP + 4 * page, entry);
     }
-    let start = 1024 + rng.below(600);
+    let start = if rng.chance(20) { 1536 - rng.below(20) } else { 1024 + rng.below(600) };
     let mut at = start as usize;
     let covered: Vec<u8> = (0..=255).filter(|byte| plain::covers(*byte)).collect();
     for _ in 0..12 {
@@ -120,10 +130,14 @@ fn case(rng: &mut Rng) -> (Vec<u8>, State) {
     (memory, state)
 }
 
+/// Where the model finds a byte that is to be fetched, or the number of the alarm.
+fn fetched(memory: &[u8], state: &State, address: u32) -> Result<usize, u32> {
+    lookup(&state.to_model(), memory, Virtual(address), Reason::Fetch).map(|place| place.0 as usize)
+}
+
 /// The command byte that a step of this desk would fetch, if it is to be had.
 fn next_byte(memory: &[u8], state: &State) -> Option<u8> {
-    let place = lookup(&state.to_model(), memory, Virtual(state.registers[15]), Access::Read).ok()?;
-    memory.get(place.0 as usize).copied()
+    fetched(memory, state, state.registers[15]).ok().and_then(|place| memory.get(place).copied())
 }
 
 #[test]
@@ -131,6 +145,7 @@ fn random_programs() {
     let mut rng = Rng::new(1);
     let mut numbers = [0u64; 33];
     let mut done = [0u64; 256];
+    let mut unfetched = [0u64; 2];
     for case_number in 0..60_000 {
         let (mut memory, mut state) = case(&mut rng);
         let first = (memory.clone(), state);
@@ -154,6 +169,12 @@ fn random_programs() {
             {
                 done[byte as usize] += 1;
             }
+            // An argument that is no address is below 256.
+            let argument = get(&memory, CONTROL_BLOCK + 68);
+            let entered = state.stopped == RUNNING && state.status & KERNEL != before.1.status & KERNEL;
+            if entered && argument >= 256 && fetched(&before.0, &before.1, argument) == Err(21) {
+                unfetched[usize::from(argument != before.1.registers[15])] += 1;
+            }
         }
         numbers[if state.stopped == RUNNING { 32 } else { state.stopped as usize % 32 }] += 1;
         for contender in CONTENDERS {
@@ -167,6 +188,8 @@ fn random_programs() {
     for number in [0, 8, 12, 14, 16, 32] {
         assert!(numbers[number] > 100, "stop {number}: {numbers:?}");
     }
+    // So was alarm 21, by a command byte and by a byte of an operand.
+    assert!(unfetched.iter().all(|count| *count > 100), "{unfetched:?}");
     // So was the quiet end of every covered command.
     for byte in (1..=255).filter(|byte| plain::covers(*byte)) {
         assert!(done[byte as usize] > 100, "{byte:02X}h: {done:?}");

@@ -107,6 +107,16 @@ static void step(const char *what, uint32_t kind, uint32_t number)
     same(what, midesk_number(answer), number);
 }
 
+/* A step that enters the kernel with this cause, argument and saved R15. */
+static void enters(const char *name, uint32_t cause, uint32_t argument, uint32_t pc)
+{
+    step(name, MIDESK_ENTERED, cause);
+    same("MIDESK_SYSTEM_PC", midesk_register(desk, MIDESK_PC), entry_pc(cause));
+    same("MIDESK_SYSTEM_STATUS", midesk_word(desk, MIDESK_STATUS), entry_status(cause));
+    same("MIDESK_CONTROL_ARGUMENT", midesk_word(memory, CONTROL + MIDESK_CONTROL_ARGUMENT), argument);
+    same("MIDESK_PC: saved", midesk_word(memory, CONTROL + MIDESK_REGISTER(MIDESK_PC)), pc);
+}
+
 /* ---- The version. */
 
 static void version(void)
@@ -237,18 +247,13 @@ static void levels(void)
     same("MIDESK_LEVEL", 15 * unit, MIDESK_LEVEL);
     for (own = 0; own < 16; own++)
         for (level = 1; level < 16; level++) {
-            const uint32_t cause = MIDESK_CAUSE_INTERRUPT(level);
             begin_user(jump, sizeof jump);
             midesk_set_word(desk, MIDESK_STATUS, own * unit);
             same("MIDESK_OK: request", midesk_request(desk, level), MIDESK_OK);
-            if (level <= own) {
+            if (level <= own)
                 step("MIDESK_LEVEL", MIDESK_DONE, 0);
-                continue;
-            }
-            step("MIDESK_CAUSE_INTERRUPT", MIDESK_ENTERED, cause);
-            same("MIDESK_SYSTEM_PC", midesk_register(desk, MIDESK_PC), entry_pc(cause));
-            same("MIDESK_SYSTEM_STATUS", midesk_word(desk, MIDESK_STATUS), entry_status(cause));
-            same("MIDESK_CONTROL_ARGUMENT", midesk_word(memory, CONTROL + MIDESK_CONTROL_ARGUMENT), level);
+            else
+                enters("MIDESK_CAUSE_INTERRUPT", MIDESK_CAUSE_INTERRUPT(level), level, 0);
         }
 }
 
@@ -298,14 +303,31 @@ static void resumed(void)
 
 /* ---- The map. */
 
-/* MOVE B from address 205h, which lies in page 1, to R0, or the other way: the cause of the kernel entry, or 0. */
-static uint32_t use_page_1(uint32_t entry, int write)
+/* What a command wants of page 1, which begins at 200h. */
+enum use {
+    LOAD,    /* MOVE B from 205h to R0 */
+    STORE,   /* MOVE B from R0 to 205h */
+    COMMAND, /* CLEAR B R1 at 205h */
+    OPERAND  /* CLEAR B R1 at 1FFh, the last byte of page 0 */
+};
+
+/* One of these, where a command that lies in page 1 is put into frame 2: the cause of the kernel entry, or 0. */
+static uint32_t use_page_1(uint32_t entry, enum use use)
 {
-    static const uint8_t load[] = {0x10, 0, 0, 0, 0, 2, 5, 2, 0, 0, 0, 0, 0};
-    static const uint8_t store[] = {0x10, 2, 0, 0, 0, 0, 0, 0, 0, 0, 0, 2, 5};
+    static const struct {
+        uint32_t at;
+        uint8_t code[LONGEST];
+    } commands[] = {
+        {0, {0x10, 0, 0, 0, 0, 2, 5, 2, 0, 0, 0, 0, 0}},
+        {0, {0x10, 2, 0, 0, 0, 0, 0, 0, 0, 0, 0, 2, 5}},
+        {0x205, {0x14, 2, 0x10, 0, 0, 0, 0}},
+        {0x1FF, {0x14, 2, 0x10, 0, 0, 0, 0}},
+    };
     uint64_t answer;
-    begin_user(write ? store : load, sizeof load);
+    begin_user(NULL, 0);
+    memcpy(memory + CODE + commands[use].at, commands[use].code, LONGEST);
     midesk_set_word(memory, MAP + 4, entry);
+    midesk_set_register(desk, MIDESK_PC, commands[use].at);
     answer = midesk_step(memory, MIDESK_MAX_MEMORY, desk);
     same("MIDESK_ENTERED", midesk_kind(answer), midesk_number(answer) == 0 ? MIDESK_DONE : MIDESK_ENTERED);
     return midesk_number(answer);
@@ -314,26 +336,43 @@ static uint32_t use_page_1(uint32_t entry, int write)
 static void map_bits(void)
 {
     const uint32_t frames = MIDESK_MAX_MEMORY / MIDESK_FRAME_BYTES;
+    const uint32_t no_fetch = MIDESK_MAP_PRESENT | MIDESK_MAP_NO_FETCH;
     unsigned i, unnamed = 0;
-    same("MIDESK_MAP_PRESENT", use_page_1(~MIDESK_MAP_PRESENT, 0), MIDESK_ALARM_ABSENT);
-    same("MIDESK_MAP_WRITABLE", use_page_1(MIDESK_MAP_PRESENT | 2, 1), MIDESK_ALARM_READ_ONLY);
-    same("MIDESK_MAP_WRITABLE", use_page_1(MIDESK_MAP_PRESENT | MIDESK_MAP_WRITABLE | 2, 1), 0);
+    same("MIDESK_MAP_PRESENT", use_page_1(~MIDESK_MAP_PRESENT, LOAD), MIDESK_ALARM_ABSENT);
+    same("MIDESK_MAP_PRESENT", use_page_1(~MIDESK_MAP_PRESENT, COMMAND), MIDESK_ALARM_ABSENT);
+    same("MIDESK_MAP_PRESENT", use_page_1(~MIDESK_MAP_PRESENT, OPERAND), MIDESK_ALARM_ABSENT);
+    same("MIDESK_MAP_WRITABLE", use_page_1(MIDESK_MAP_PRESENT | 2, STORE), MIDESK_ALARM_READ_ONLY);
+    same("MIDESK_MAP_WRITABLE", use_page_1(MIDESK_MAP_PRESENT | MIDESK_MAP_WRITABLE | 2, STORE), 0);
     same("MIDESK_MAP_WRITABLE: what is written to frame 2", memory[2 * MIDESK_FRAME_BYTES + 5], marked(0) & 0xFF);
+    same("MIDESK_MAP_NO_FETCH", use_page_1(MIDESK_MAP_PRESENT | 2, COMMAND), 0);
+    same("MIDESK_MAP_NO_FETCH", use_page_1(MIDESK_MAP_PRESENT | 2, OPERAND), 0);
+    same("MIDESK_MAP_NO_FETCH", use_page_1(no_fetch | 2, COMMAND), MIDESK_CAUSE_NO_FETCH);
+    same("MIDESK_MAP_NO_FETCH", use_page_1(no_fetch | 2, OPERAND), MIDESK_CAUSE_NO_FETCH);
+    same("MIDESK_MAP_NO_FETCH", use_page_1(no_fetch | MIDESK_MAP_WRITABLE | 2, COMMAND), MIDESK_CAUSE_NO_FETCH);
+    same("MIDESK_MAP_NO_FETCH", use_page_1(no_fetch | 1, LOAD), 0);
+    same("MIDESK_MAP_NO_FETCH: what is read from frame 1", midesk_register(desk, 0) & 0xFF, 2);
+    same("MIDESK_MAP_NO_FETCH", use_page_1(no_fetch | 2, STORE), MIDESK_ALARM_READ_ONLY);
+    same("MIDESK_MAP_NO_FETCH", use_page_1(no_fetch | MIDESK_MAP_WRITABLE | 2, STORE), 0);
+    same("MIDESK_MAP_NO_FETCH: what is written to frame 2", memory[2 * MIDESK_FRAME_BYTES + 5], marked(0) & 0xFF);
     for (i = 0; i < 32; i++) {
         const uint32_t bit = (uint32_t)1 << i;
-        if (bit & (MIDESK_MAP_PRESENT | MIDESK_MAP_WRITABLE))
+        if (bit & (MIDESK_MAP_PRESENT | MIDESK_MAP_WRITABLE | MIDESK_MAP_NO_FETCH))
             continue;
         if ((bit & MIDESK_MAP_FRAME) && bit < frames) {
             const size_t at = (size_t)bit * MIDESK_FRAME_BYTES + 5;
             memory[at] = 0x5A; /* which begin_user replaces below LENGTH */
-            same("MIDESK_MAP_FRAME", use_page_1(MIDESK_MAP_PRESENT | bit, 0), 0);
+            same("MIDESK_MAP_FRAME", use_page_1(MIDESK_MAP_PRESENT | bit, LOAD), 0);
             same("MIDESK_FRAME_BYTES", midesk_register(desk, 0) & 0xFF, memory[at]);
             memory[at] = 0;
-        } else
-            same("MIDESK_MAP_FRAME", use_page_1(MIDESK_MAP_PRESENT | bit, 0), MIDESK_ALARM_MAP_ENTRY);
+        } else {
+            same("MIDESK_MAP_FRAME", use_page_1(MIDESK_MAP_PRESENT | bit, LOAD), MIDESK_ALARM_MAP_ENTRY);
+            /* Tried before alarm 21. */
+            same("MIDESK_MAP_FRAME", use_page_1(no_fetch | bit, COMMAND), MIDESK_ALARM_MAP_ENTRY);
+            same("MIDESK_MAP_FRAME", use_page_1(no_fetch | bit, OPERAND), MIDESK_ALARM_MAP_ENTRY);
+        }
         unnamed += (bit & MIDESK_MAP_FRAME) == 0;
     }
-    same("MIDESK_MAP_FRAME: bits between it and MIDESK_MAP_WRITABLE", 6, unnamed);
+    same("MIDESK_MAP_FRAME: bits between it and MIDESK_MAP_NO_FETCH", 5, unnamed);
 }
 
 /* ---- Lengths of memory. */
@@ -431,16 +470,69 @@ static void causes_and_stops(void)
         }
         if (rows[i].user) {
             begin_user(rows[i].code, LONGEST);
-            step(name, MIDESK_ENTERED, number);
-            same("MIDESK_SYSTEM_PC", midesk_register(desk, MIDESK_PC), entry_pc(number));
-            same("MIDESK_SYSTEM_STATUS", midesk_word(desk, MIDESK_STATUS), entry_status(number));
-            same("MIDESK_CONTROL_ARGUMENT", midesk_word(memory, CONTROL + MIDESK_CONTROL_ARGUMENT), rows[i].argument);
+            enters(name, number, rows[i].argument, number == MIDESK_CAUSE_SYSTEM_CALL ? 7 : 0);
             /* An entry of the system block that is not valid. */
             begin_user(rows[i].code, LONGEST);
             midesk_set_word(memory, SYSTEM + MIDESK_SYSTEM_STATUS(number), 0);
             step("MIDESK_STOP_SYSTEM_ENTRY", MIDESK_STOPPED, MIDESK_STOP_SYSTEM_ENTRY);
         }
     }
+}
+
+/* In user mode CLEAR B R1 at this address; page 1, which begins at 200h, is frame 2 and nothing is fetched from it. */
+static void begin_no_fetch(uint32_t at)
+{
+    static const uint8_t jump[] = {0x70, 0, 0, 0, 0, 2, 5}; /* to 205h */
+    static const uint8_t clear[] = {0x14, 2, 0x10, 0, 0, 0, 0};
+    begin_user(jump, sizeof jump);
+    memcpy(memory + CODE + at, clear, sizeof clear);
+    midesk_set_word(memory, MAP + 4, MIDESK_MAP_PRESENT | MIDESK_MAP_WRITABLE | MIDESK_MAP_NO_FETCH | 2);
+    midesk_set_register(desk, MIDESK_PC, at);
+}
+
+/* Alarm 21, and the interrupt whose cause is 21. */
+static void alarm_21(void)
+{
+    static const struct {
+        uint32_t at, argument; /* of the command; of its first byte in page 1 */
+    } rows[] = {
+        {0x200, 0x200},
+        {0x205, 0x205},
+        {0x1FF, 0x200}, /* the operand's first byte */
+        {0x1FD, 0x200}, /* its third, the first of its word */
+        {0x1FA, 0x200}, /* its last */
+    };
+    size_t i;
+    same("MIDESK_CAUSE_INTERRUPT", 21, MIDESK_CAUSE_INTERRUPT(5));
+    for (i = 0; i < COUNT(rows); i++) {
+        const uint32_t at = rows[i].at;
+        begin_no_fetch(at);
+        enters("MIDESK_CAUSE_NO_FETCH", MIDESK_CAUSE_NO_FETCH, rows[i].argument, at);
+        begin_no_fetch(at);
+        same("MIDESK_OK: request", midesk_request(desk, 5), MIDESK_OK);
+        enters("MIDESK_CAUSE_INTERRUPT", MIDESK_CAUSE_INTERRUPT(5), 5, at);
+        /* A level that is not above the own; each of the two entries of the system block not valid. */
+        begin_no_fetch(at);
+        midesk_set_word(desk, MIDESK_STATUS, MIDESK_LEVEL);
+        midesk_set_word(memory, SYSTEM + MIDESK_SYSTEM_STATUS(21), 0);
+        same("MIDESK_OK: request", midesk_request(desk, 5), MIDESK_OK);
+        enters("MIDESK_CAUSE_NO_FETCH", MIDESK_CAUSE_NO_FETCH, rows[i].argument, at);
+        begin_no_fetch(at);
+        midesk_set_word(memory, SYSTEM + MIDESK_SYSTEM_STATUS(MIDESK_CAUSE_NO_FETCH), 0);
+        step("MIDESK_STOP_SYSTEM_ENTRY", MIDESK_STOPPED, MIDESK_STOP_SYSTEM_ENTRY);
+    }
+    /* By a jump, which itself is done; all of the command before page 1; kernel mode, at a real address. */
+    begin_no_fetch(0x205);
+    midesk_set_register(desk, MIDESK_PC, 0);
+    step("MIDESK_DONE", MIDESK_DONE, 0);
+    same("MIDESK_PC", midesk_register(desk, MIDESK_PC), 0x205);
+    enters("MIDESK_CAUSE_NO_FETCH", MIDESK_CAUSE_NO_FETCH, 0x205, 0x205);
+    begin_no_fetch(0x1F9);
+    step("MIDESK_DONE", MIDESK_DONE, 0);
+    begin_no_fetch(0);
+    midesk_set_word(desk, MIDESK_STATUS, MIDESK_KERNEL);
+    midesk_set_register(desk, MIDESK_PC, CODE);
+    step("MIDESK_DONE", MIDESK_DONE, 0);
 }
 
 /* HALT after one command: a run ends there. */
@@ -601,6 +693,7 @@ int main(void)
     lengths();
     refusals();
     causes_and_stops();
+    alarm_21();
     run();
     lists();
     pieces();

@@ -47,7 +47,8 @@ static void set_up(void)
     midesk_set_word(memory, CONTROL + MIDESK_CONTROL_MAP_BASE, MAP);
     midesk_set_word(memory, CONTROL + MIDESK_CONTROL_MAP_LENGTH, 2);
     midesk_set_word(memory, MAP, MIDESK_MAP_PRESENT | CODE / MIDESK_FRAME_BYTES);
-    midesk_set_word(memory, MAP + 4, MIDESK_MAP_PRESENT | MIDESK_MAP_WRITABLE | DATA / MIDESK_FRAME_BYTES);
+    midesk_set_word(memory, MAP + 4, /* the program writes there, but no byte of it is run */
+                    MIDESK_MAP_PRESENT | MIDESK_MAP_WRITABLE | MIDESK_MAP_NO_FETCH | DATA / MIDESK_FRAME_BYTES);
 }
 
 int main(void)

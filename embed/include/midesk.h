@@ -60,8 +60,8 @@ extern "C" {
  * sees, MINOR where something is added, MAJOR where a program may have to be changed. MIDESK_VERSION is one number, for
  * comparisons in #if too: 65536 x MAJOR + 256 x MINOR + PATCH.
  */
-#define MIDESK_VERSION_MAJOR 2
-#define MIDESK_VERSION_MINOR 1
+#define MIDESK_VERSION_MAJOR 3
+#define MIDESK_VERSION_MINOR 0
 #define MIDESK_VERSION_PATCH 0
 #define MIDESK_VERSION (MIDESK_VERSION_MAJOR * 65536u + MIDESK_VERSION_MINOR * 256u + MIDESK_VERSION_PATCH)
 
@@ -115,19 +115,24 @@ extern "C" {
  * refuse, or a status with MIDESK_KERNEL or an undefined bit, is alarm 14.
  */
 #define MIDESK_CONTROL_STATUS 64     /* status word */
-#define MIDESK_CONTROL_ARGUMENT 68   /* system call: its value; interrupt: the level; alarms 8 to 11: the byte's
-                                        address; 12 and 13: the command byte; 14: the operand's place, from 1;
-                                        15: zero */
+#define MIDESK_CONTROL_ARGUMENT 68   /* system call: its value; interrupt: the level; alarms 8 to 11 and 21: the
+                                        byte's address; 12 and 13: the command byte; 14: the operand's place, from
+                                        1; 15: zero */
 #define MIDESK_CONTROL_MAP_BASE 72   /* map base */
 #define MIDESK_CONTROL_MAP_LENGTH 76 /* map length in entries */
 
 /*
  * Map, used in user mode alone: page p, the addresses from 512 x p to 512 x p + 511, has the word at map base + 4 x p.
- * In an entry that is not present the other bits mean nothing. In a present one the six bits between
- * MIDESK_MAP_WRITABLE and MIDESK_MAP_FRAME must be 0, and the frame must lie in memory; otherwise its use is alarm 10.
+ * In an entry that is not present the other bits mean nothing. In a present one the five bits between
+ * MIDESK_MAP_NO_FETCH and MIDESK_MAP_FRAME must be 0, and the frame must lie in memory; otherwise its use is alarm 10.
+ *
+ * From a page whose entry has MIDESK_MAP_NO_FETCH nothing is fetched, neither a command byte nor any of an operand's
+ * six bytes: that is alarm 21, tried after 10. Its bytes are read like others, those of the stack and the words of
+ * forms 5 and 6 among them, and written where the entry is writable.
  */
 #define MIDESK_MAP_PRESENT 0x80000000u
 #define MIDESK_MAP_WRITABLE 0x40000000u
+#define MIDESK_MAP_NO_FETCH 0x20000000u
 #define MIDESK_MAP_FRAME 0x00FFFFFFu /* the frame's number f: the 512 bytes from real address 512 x f */
 
 /* Lengths of memory that are allowed: multiples of MIDESK_FRAME_BYTES up to MIDESK_MAX_MEMORY, but not 0. */
@@ -167,7 +172,8 @@ extern "C" {
 
 /*
  * Alarms. In user mode each is the cause of a kernel entry (or there is stop 16, where the system block's entry is not
- * valid). In kernel mode 8 and 12 to 15 are the number of a stop; 9 to 11 do not occur.
+ * valid). In kernel mode 8 and 12 to 15 are the number of a stop; 9 to 11 and 21 do not occur. Alarm 21 is the only one
+ * whose cause is not its number, and stands here by its cause: 21 is the cause of an interrupt of level 5.
  */
 #define MIDESK_ALARM_ADDRESS 8u     /* the page is at or past the map length, or in kernel mode the byte lies
                                        past the memory */
@@ -178,6 +184,8 @@ extern "C" {
 #define MIDESK_ALARM_MODE 13u       /* HALT or RESUME in user mode, or a system call in kernel mode */
 #define MIDESK_ALARM_OPERAND 14u    /* an operand breaks a form rule, or RESUME's block cannot be used */
 #define MIDESK_ALARM_DIVIDE 15u     /* DIV by zero */
+#define MIDESK_CAUSE_NO_FETCH 2u    /* alarm 21: a command byte, or a byte of an operand, is fetched where the map's
+                                       entry has MIDESK_MAP_NO_FETCH */
 
 /* Other causes of a kernel entry. */
 #define MIDESK_CAUSE_SYSTEM_CALL 1u

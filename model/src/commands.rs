@@ -29,7 +29,7 @@ fn wrong_mode(op: Op, kernel: bool) -> bool {
 /// One command: byte, mode, operands, stack bytes read, operation, writes.
 pub fn command(work: &mut Work) -> Result<Done, Alarm> {
     let own = work.now.registers[PC];
-    let byte = work.read(own, 1, Part::Byte)?[0];
+    let byte = work.fetch(own, 1, Part::Byte)?[0];
     work.now.registers[PC] = own.wrapping_add(1);
     work.notes.add(Note::Command(byte));
     let alarm = |number, part| Alarm { number, argument: u32::from(byte), part };

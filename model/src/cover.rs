@@ -5,6 +5,7 @@ use crate::checks::{self, Broken};
 use crate::code::Role;
 use crate::desk;
 use crate::entry;
+use crate::fetch_table::{Before, Fetches};
 use crate::joint_table::Joint;
 use crate::list_table::Lists;
 use crate::notes::{Note, Notes};
@@ -16,7 +17,7 @@ use std::collections::BTreeMap;
 
 pub type Counts<K> = BTreeMap<K, u32>;
 
-/// Outcome of a command besides alarms 8 to 15.
+/// Outcome of a command besides alarms 8 to 15 and 21.
 pub const FINE: u32 = 0;
 
 #[derive(Default)]
@@ -44,6 +45,7 @@ pub struct Cover {
     /// Command byte that keeps flags, flags.
     pub kept: Counts<(u8, u32)>,
     pub shifts: Shifts,
+    pub fetches: Fetches,
     pub resumes: Counts<&'static str>,
     /// Level and what became of it.
     pub levels: Counts<(u32, &'static str)>,
@@ -86,8 +88,10 @@ impl Cover {
     /// Makes a step that isn't refused, and counts.
     fn step(&mut self, before: &State, memory: &mut [u8]) -> (State, Event) {
         let mut notes = Notes::kept();
+        let seen = Before::of(before, memory);
         let answer = desk::step_noting(&mut notes, before, memory);
         self.stepped(before, &answer.state, &answer.event, notes.list());
+        self.fetches.stepped(before, &seen, &answer.state, notes.list(), memory);
         (answer.state, answer.event)
     }
 
@@ -140,6 +144,7 @@ impl Cover {
                     outcome = *number;
                     add(&mut self.alarms, (*number, *part, kernel));
                 }
+                Note::Lookup { .. } => {}
                 Note::Crossing(part) => add(&mut self.crossings, *part),
                 Note::Resume(reason) => add(&mut self.resumes, *reason),
                 Note::BadEntry { cause, reason } => add(&mut self.bad_entries, (*cause, *reason)),
@@ -176,6 +181,7 @@ impl Cover {
         let mut memory = case.image.clone();
         let mut state = case.start;
         let mut loads = Loads { put: vec![false; memory.len()], last: None, two: false };
+        self.fetches.begins();
         for call in &case.calls {
             let judged = match call {
                 Call::Step | Call::Run(_) => checks::of_step(&state, &memory),
@@ -213,6 +219,7 @@ impl Cover {
                     state = make(call, &state, &mut memory).state;
                 }
                 (Ok(()), Call::Fresh { .. } | Call::Load(_) | Call::LoadBoth(_)) => {
+                    self.fetches.begins();
                     state = make(call, &state, &mut memory).state
                 }
             }

@@ -83,7 +83,8 @@ fn one_step(notes: &mut Notes, start: &State, memory: &mut [u8]) -> (State, Even
             if start.kernel() {
                 entry::stop(start, alarm.number)
             } else {
-                entry::enter(notes, start, start, alarm.number, alarm.argument, memory)
+                let cause = entry::cause_of(alarm.number);
+                entry::enter(notes, start, start, cause, alarm.argument, memory)
             }
         }
     }

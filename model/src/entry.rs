@@ -1,4 +1,4 @@
-//! Kernel entry, interrupts and stops ("One step", "Numbers 1 to 16").
+//! Kernel entry, interrupts and stops ("One step", "Numbers 1 to 16", and 21 of request F-4).
 
 use crate::checks;
 use crate::map::{put, word, Real};
@@ -25,6 +25,14 @@ fn save(address: u32, bytes: &[u8], memory: &mut [u8]) {
 /// Stops with a number, all else as in `state`.
 pub fn stop(state: &State, number: u32) -> (State, Event) {
     (State { mark: Mark::Stopped(number), ..*state }, Event::Stop(number))
+}
+
+/// The cause of an alarm: its number, and 2 for alarm 21 (21 is the cause of level 5).
+pub fn cause_of(alarm: u32) -> u32 {
+    match alarm {
+        21 => 2,
+        number => number,
+    }
 }
 
 /// Enters the kernel with a cause. `start` is the state before the step,

@@ -11,6 +11,7 @@ pub mod cover;
 pub mod desk;
 pub mod entry;
 pub mod faults;
+pub mod fetch_table;
 pub mod flag_table;
 pub mod gen;
 pub mod joint;

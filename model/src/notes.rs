@@ -1,6 +1,7 @@
 //! Remarks of the model for the coverage table; they change nothing.
 
 use crate::code::Role;
+use crate::map::Reason;
 use crate::work::Part;
 
 #[derive(Clone, Copy, PartialEq, Eq, Debug)]
@@ -24,6 +25,14 @@ pub enum Note {
     Alarm {
         number: u32,
         part: Part,
+    },
+    /// A byte was looked up by an entry of the map; `number` is 0 if it was found.
+    Lookup {
+        at: u32,
+        entry: u32,
+        reason: Reason,
+        part: Part,
+        number: u32,
     },
     /// Bytes in two pages were read or written without an alarm.
     Crossing(Part),

@@ -107,7 +107,7 @@ fn locate(work: &mut Work, number: u32, fields: &Fields, size: u32) -> Result<Pl
 /// One operand: fetch, form, address, and reading where its value is used.
 pub fn operand(work: &mut Work, number: u32, role: Role, size: u32) -> Result<Operand, Alarm> {
     let base = work.now.registers[PC];
-    let bytes = work.read(base, 6, Part::Fetch(number))?;
+    let bytes = work.fetch(base, 6, Part::Fetch(number))?;
     work.now.registers[PC] = base.wrapping_add(6);
     let fields = Fields::of(&bytes);
     let Fields { form, x, y, .. } = fields;

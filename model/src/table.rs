@@ -47,6 +47,9 @@ const ROLES: [(&str, Role); 4] = [
     ("read and written", Role::Both),
 ];
 
+/// Outcomes of a command: none of the alarms, or one of them.
+const OUTCOMES: [u32; 10] = [FINE, 8, 9, 10, 11, 12, 13, 14, 15, 21];
+
 fn mode_name(kernel: bool) -> &'static str {
     if kernel {
         "kernel"
@@ -58,7 +61,7 @@ fn mode_name(kernel: bool) -> &'static str {
 /// Outcomes that the rules allow for a byte in a mode.
 fn allowed(byte: u16, kernel: bool) -> Vec<u32> {
     if byte == 256 {
-        return if kernel { vec![8] } else { vec![8, 9, 10] };
+        return if kernel { vec![8] } else { vec![8, 9, 10, 21] };
     }
     let Some(known) = decode(byte as u8) else { return vec![12] };
     match known.op {
@@ -78,6 +81,9 @@ fn allowed(byte: u16, kernel: bool) -> Vec<u32> {
     }
     if !known.operands.is_empty() {
         list.push(14);
+        if !kernel {
+            list.push(21);
+        }
     }
     if known.op == Op::Div {
         list.push(15);
@@ -87,13 +93,14 @@ fn allowed(byte: u16, kernel: bool) -> Vec<u32> {
 
 pub fn commands(cover: &Cover, table: &mut Table) {
     println!("Command bytes: outcomes by mode (0 is without alarm; '-' is impossible by the rules)");
-    println!("  byte    mode    {:>7}{:>8}{:>8}{:>8}{:>8}{:>8}{:>8}{:>8}{:>8}", 0, 8, 9, 10, 11, 12, 13, 14, 15);
+    let heads: String = OUTCOMES[1..].iter().map(|outcome| format!("{outcome:>8}")).collect();
+    println!("  byte    mode    {:>7}{heads}", FINE);
     for byte in (0..=256u16).filter(|b| *b == 256 || decode(*b as u8).is_some()) {
         for kernel in [false, true] {
             let name = if byte == 256 { "none".into() } else { format!("{byte:02X}h") };
             let wanted = allowed(byte, kernel);
             let mut line = format!("  {name:7} {:7}", mode_name(kernel));
-            for outcome in [FINE, 8, 9, 10, 11, 12, 13, 14, 15] {
+            for outcome in OUTCOMES {
                 let cell = table.cell(
                     &cover.commands,
                     (byte, kernel, outcome),
@@ -114,11 +121,12 @@ pub fn commands(cover: &Cover, table: &mut Table) {
     }
     println!("  unknown bytes giving 12: {} in user mode, {} in kernel mode", unknown[0], unknown[1]);
     println!(
-        "  impossible: 9 to 11 in kernel mode (no map); 11 without a write; 13 but for HALT, RESUME and system call;"
+        "  impossible: 9 to 11 and 21 in kernel mode (no map); 11 without a write; 13 but for HALT, RESUME and \
+         system call;"
     );
     println!(
         "  HALT and RESUME in user mode and the system call in kernel mode end with 13; \
-         14 needs an operand; 15 needs DIV\n"
+         14 and 21 need an operand; 15 needs DIV\n"
     );
 }
 
@@ -203,9 +211,9 @@ pub fn rules(cover: &Cover, table: &mut Table) {
 
 pub fn alarms(cover: &Cover, table: &mut Table) {
     println!("Alarms by part of the command");
-    let mut parts = vec![(Part::Byte, vec![8, 9, 10, 12]), (Part::Mode, vec![13])];
+    let mut parts = vec![(Part::Byte, vec![8, 9, 10, 12, 21]), (Part::Mode, vec![13])];
     for place in 1..=3 {
-        parts.push((Part::Fetch(place), vec![8, 9, 10]));
+        parts.push((Part::Fetch(place), vec![8, 9, 10, 21]));
         parts.push((Part::Form(place), vec![14]));
         parts.push((Part::Indirect(place), vec![8, 9, 10]));
         if place < 3 {
@@ -218,10 +226,11 @@ pub fn alarms(cover: &Cover, table: &mut Table) {
     for (part, numbers) in parts {
         for kernel in [false, true] {
             let mut line = format!("  {:12} {:7}", format!("{part:?}"), mode_name(kernel));
-            for number in 8..=15 {
+            for number in &OUTCOMES[1..] {
+                let number = *number;
                 let mut wanted = numbers.contains(&number);
                 if kernel {
-                    wanted &= !(9..=11).contains(&number);
+                    wanted &= !matches!(number, 9..=11 | 21);
                 } else {
                     wanted &= !(part == Part::Operation && number == 14);
                 }
@@ -233,9 +242,9 @@ pub fn alarms(cover: &Cover, table: &mut Table) {
         }
     }
     println!(
-        "  columns: 8 to 15. Impossible: 14 at the operation is RESUME's, in kernel mode only; a third operand's value"
+        "  columns: 8 to 15, 21. Impossible: 14 at the operation is RESUME's, in kernel mode only; a third operand's"
     );
-    println!("  is never used; 9 to 11 need the map\n");
+    println!("  value is never used; 9 to 11 and 21 need the map, 21 a fetch\n");
     println!("Bytes in two pages, read or written without an alarm");
     for place in 1..=3 {
         let mut line = format!("  operand {place}: ");
@@ -255,7 +264,7 @@ pub fn alarms(cover: &Cover, table: &mut Table) {
 
 pub fn entries(cover: &Cover, table: &mut Table) {
     println!("Causes: entries, and stops 16 by a user status or an undefined bit");
-    let causes: Vec<u32> = [1].into_iter().chain(8..=15).chain(17..=31).collect();
+    let causes: Vec<u32> = [1, 2].into_iter().chain(8..=15).chain(17..=31).collect();
     for cause in &causes {
         let entered = table.cell(&cover.entries, *cause, true, format!("entry with cause {cause}"));
         let total: u32 = cover.bad_entries.iter().filter(|((c, _), _)| c == cause).map(|(_, count)| *count).sum();
@@ -273,13 +282,15 @@ pub fn entries(cover: &Cover, table: &mut Table) {
         }
         println!("  {reason}: {total}");
     }
-    println!("  other causes are impossible: 1, the alarm numbers 8 to 15 and 16 + level are all that enter");
+    println!(
+        "  other causes are impossible: 1, 2 for alarm 21, the alarm numbers 8 to 15 and 16 + level are all that enter"
+    );
     println!("Stops");
-    for number in [0, 8, 9, 10, 11, 12, 13, 14, 15, 16] {
-        let wanted = !(9..=11).contains(&number);
+    for number in [0, 8, 9, 10, 11, 12, 13, 14, 15, 16, 21] {
+        let wanted = !matches!(number, 9..=11 | 21);
         println!("  {number:2}: {:>6}", table.cell(&cover.stops, number, wanted, format!("stop {number}")));
     }
-    println!("  impossible: 9 to 11 come from the map, which kernel mode doesn't use\n");
+    println!("  impossible: 9 to 11 and 21 come from the map, which kernel mode doesn't use\n");
 }
 
 pub fn refusals(cover: &Cover, table: &mut Table) {

@@ -1,6 +1,6 @@
 //! Reads and writes of one command, and the alarms that end it.
 
-use crate::map::{get, lookup, Access, Real, Virtual};
+use crate::map::{entry_at, get, lookup, Real, Reason, Virtual};
 use crate::notes::{Note, Notes};
 use crate::state::*;
 
@@ -42,17 +42,32 @@ impl<'a> Work<'a> {
         Work { notes, start, memory, now: *start, writes: Vec::new() }
     }
 
+    /// The real place of the byte at `at`, or the alarm by the number that the lookup gives.
+    fn place(&mut self, at: u32, reason: Reason, part: Part) -> Result<Real, Alarm> {
+        let found = lookup(self.start, self.memory, Virtual(at), reason);
+        self.note_lookup(at, reason, part, found.err().unwrap_or(0));
+        found.map_err(|number| Alarm { number, argument: at, part })
+    }
+
     /// `count` bytes upward from `address`, each looked up by itself.
-    pub fn read(&mut self, address: u32, count: u32, part: Part) -> Result<Vec<u8>, Alarm> {
+    fn bytes(&mut self, address: u32, count: u32, reason: Reason, part: Part) -> Result<Vec<u8>, Alarm> {
         let mut bytes = Vec::new();
         for i in 0..count {
-            let at = address.wrapping_add(i);
-            let found = lookup(self.start, self.memory, Virtual(at), Access::Read);
-            let real = found.map_err(|number| Alarm { number, argument: at, part })?;
+            let real = self.place(address.wrapping_add(i), reason, part)?;
             bytes.push(get(self.memory, real));
         }
         self.note_crossing(address, count, part);
         Ok(bytes)
+    }
+
+    /// Bytes of the command itself: the command byte, or the six of an operand.
+    pub fn fetch(&mut self, address: u32, count: u32, part: Part) -> Result<Vec<u8>, Alarm> {
+        self.bytes(address, count, Reason::Fetch, part)
+    }
+
+    /// Bytes that the command reads.
+    pub fn read(&mut self, address: u32, count: u32, part: Part) -> Result<Vec<u8>, Alarm> {
+        self.bytes(address, count, Reason::Read, part)
     }
 
     /// A value of `size` bytes, highest byte first.
@@ -65,9 +80,7 @@ impl<'a> Work<'a> {
     pub fn write(&mut self, address: u32, bytes: &[u8]) -> Result<(), Alarm> {
         let part = Part::Write;
         for (i, byte) in bytes.iter().enumerate() {
-            let at = address.wrapping_add(i as u32);
-            let found = lookup(self.start, self.memory, Virtual(at), Access::Write);
-            let real = found.map_err(|number| Alarm { number, argument: at, part })?;
+            let real = self.place(address.wrapping_add(i as u32), Reason::Write, part)?;
             self.writes.push((real, *byte));
         }
         self.note_crossing(address, bytes.len() as u32, part);
@@ -78,6 +91,15 @@ impl<'a> Work<'a> {
     pub fn write_value(&mut self, address: u32, size: u32, value: u32) -> Result<(), Alarm> {
         let bytes = value.to_be_bytes();
         self.write(address, &bytes[4 - size as usize..])
+    }
+
+    fn note_lookup(&mut self, at: u32, reason: Reason, part: Part, number: u32) {
+        if self.start.kernel() {
+            return;
+        }
+        if let Some(entry) = entry_at(self.start, self.memory, Virtual(at)) {
+            self.notes.add(Note::Lookup { at, entry, reason, part, number });
+        }
     }
 
     fn note_crossing(&mut self, address: u32, count: u32, part: Part) {

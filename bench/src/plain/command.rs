@@ -2,7 +2,7 @@
 
 use super::arithmetic::{compare, operate, Outcome, C, N, V, Z};
 use super::arithmetic::{ADD, ANDNOT, MULT, OR, SH, SUB, XOR};
-use super::memory::byte;
+use super::memory::{byte, FETCH};
 use super::operand::{address, target, value};
 use super::{stack, Alarm};
 use crate::state::{State, KERNEL};
@@ -75,7 +75,7 @@ fn three<const ONE_LOOKUP: bool, const SIZE: usize, const OPERATION: u8>(
 #[inline(always)]
 pub fn command<const ONE_LOOKUP: bool>(memory: &mut [u8], desk: &mut State) -> Result<(), Alarm> {
     let start = desk.registers[15];
-    let code = byte(memory, desk, start)?;
+    let code = byte::<FETCH>(memory, desk, start)?;
     desk.registers[15] = start.wrapping_add(1);
     match code {
         HALT if desk.status & KERNEL == 0 => Err(Alarm(13, 0)),

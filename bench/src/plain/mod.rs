@@ -9,7 +9,7 @@
 //! - MOVE, CMP, and OR, ANDNOT, XOR, ADD, SUB, MULT with two and three operands, in B, H and W; SH;
 //! - the jumps 70h to 78h, CALL, RET, PUSHR, POPR and HALT;
 //! - the nine forms with their rules (14), R15 inside an operand, flags;
-//! - the map and alarms 8 to 13, the undoing of a command that alarms;
+//! - the map and alarms 8 to 13 and 21, the undoing of a command that alarms;
 //! - refusals 1 to 5 and 7, interrupts, kernel entry and stop 16, the step count;
 //! - load lists with their refusals (`load.rs`), and two of them together (`load_both.rs`).
 //!
@@ -37,6 +37,16 @@ pub use load_both::load_both;
 #[derive(Clone, Copy, PartialEq, Eq, Debug)]
 pub struct Alarm(u32, u32);
 
+impl Alarm {
+    /// The cause of its kernel entry: its number, but of 21, which is the cause of an interrupt.
+    fn cause(self) -> u32 {
+        match self.0 {
+            21 => 2,
+            number => number,
+        }
+    }
+}
+
 /// At most `n` steps: their count, or the number of the refusal.
 #[inline(never)]
 pub fn run<const ONE_LOOKUP: bool>(memory: &mut [u8], desk: &mut State, n: u64) -> Result<u64, u32> {
@@ -55,12 +65,12 @@ fn step<const ONE_LOOKUP: bool>(memory: &mut [u8], desk: &mut State) {
     }
     // Flags are set last, so an alarm has only registers to undo.
     let registers = desk.registers;
-    if let Err(Alarm(number, argument)) = command::command::<ONE_LOOKUP>(memory, desk) {
+    if let Err(alarm) = command::command::<ONE_LOOKUP>(memory, desk) {
         desk.registers = registers;
         if desk.status & KERNEL != 0 {
-            desk.stopped = number;
+            desk.stopped = alarm.0;
         } else {
-            entry::enter(memory, desk, number, argument);
+            entry::enter(memory, desk, alarm.cause(), alarm.1);
         }
     }
 }

@@ -1,6 +1,6 @@
 //! Operands: six bytes, form rules, address, value.
 
-use super::memory::{self, fields, store};
+use super::memory::{self, fields, store, READ};
 use super::Alarm;
 use crate::state::State;
 
@@ -31,7 +31,7 @@ fn place<const ONE_LOOKUP: bool, const SIZE: usize>(
     let size = SIZE as u32;
     let sum = |desk: &State| z.wrapping_add(desk.registers[x]);
     let index = |desk: &State| desk.registers[y].wrapping_mul(size);
-    let indirect = |desk: &State| memory::value::<ONE_LOOKUP, 4>(memory, desk, sum(desk));
+    let indirect = |desk: &State| memory::value::<ONE_LOOKUP, READ, 4>(memory, desk, sum(desk));
     Ok(match form {
         0 if pair == 0 => Place::At(z),
         1 if pair == 0 && z <= mask::<SIZE>() => Place::Value(z),
@@ -91,7 +91,7 @@ impl Place {
         match self {
             Place::Value(z) => Ok(z),
             Place::Register(x) => Ok(desk.registers[x] & mask::<SIZE>()),
-            Place::At(address) => memory::value::<ONE_LOOKUP, SIZE>(memory, desk, address),
+            Place::At(address) => memory::value::<ONE_LOOKUP, READ, SIZE>(memory, desk, address),
         }
     }
 

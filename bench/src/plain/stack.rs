@@ -1,6 +1,6 @@
 //! The stack: CALL, RET, PUSHR, POPR.
 
-use super::memory::{bytes, store, value, write};
+use super::memory::{bytes, store, value, write, READ};
 use super::operand::address;
 use super::Alarm;
 use crate::state::State;
@@ -20,7 +20,7 @@ pub fn call<const ONE_LOOKUP: bool>(memory: &mut [u8], desk: &mut State) -> Resu
 
 #[inline(never)]
 pub fn ret<const ONE_LOOKUP: bool>(memory: &mut [u8], desk: &mut State) -> Result<(), Alarm> {
-    desk.registers[15] = value::<ONE_LOOKUP, 4>(memory, desk, desk.registers[SP])?;
+    desk.registers[15] = value::<ONE_LOOKUP, READ, 4>(memory, desk, desk.registers[SP])?;
     desk.registers[SP] = desk.registers[SP].wrapping_add(4);
     Ok(())
 }
@@ -41,7 +41,7 @@ pub fn push_all<const ONE_LOOKUP: bool>(memory: &mut [u8], desk: &mut State) -> 
 /// POPR: SP is the last word raised once.
 #[inline(never)]
 pub fn pop_all<const ONE_LOOKUP: bool>(memory: &mut [u8], desk: &mut State) -> Result<(), Alarm> {
-    let all = bytes::<ONE_LOOKUP, ALL>(memory, desk, desk.registers[SP])?;
+    let all = bytes::<ONE_LOOKUP, READ, ALL>(memory, desk, desk.registers[SP])?;
     for (register, from) in desk.registers.iter_mut().zip(all.chunks_exact(4)) {
         *register = u32::from_be_bytes([from[0], from[1], from[2], from[3]]);
     }

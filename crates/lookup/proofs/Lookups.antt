@@ -14,8 +14,8 @@ use Rattle.machine.specs.declared.Access.{Access}
 use Rattle.machine.specs.Words.{pick, Memory, wrap}
 use Rattle.machine.specs.State.{userMode}
 use Rattle.machine.specs.Alarms.{got, alarm}
-use Rattle.machine.specs.Map.{pageOf, mapEntry, present, frameOf, undamaged, Found, foundAt, inFrame, allows}
-use Rattle.machine.specs.Map.{inNumberOrder, mapped, realOf, unmapped, viewBy}
+use Rattle.machine.specs.Map.{pageOf, mapEntry, present, frameOf, undamaged, Found, foundAt, inFrame}
+use Rattle.machine.specs.Map.{allowsWrite, allowsFetch, inNumberOrder, mapped, realOf, unmapped, viewBy}
 use Rattle.machine.proofs.Pages.{Alarms, found-inside, Finds, found-page}
 use Rattle.lookup.specs.Answers.{Fits, lookupAs}
 use Rattle.lookup.specs.declared.Lookup.{Lookup}
@@ -23,14 +23,15 @@ use Rattle.lookup.specs.declared.Lookup.the-variants as lookup
 
 -- ---- An alarm of a view names the address that was looked up
 
-order-names : (b t s k : Bool) (x : VirtualAddress) (f : Found) (n : Alarm) (y : ℕ)
-    → inNumberOrder b t s k x f ≡ alarm n y → y ≡ x .0
+order-names : (b t s k l : Bool) (x : VirtualAddress) (f : Found) (n : Alarm) (y : ℕ)
+    → inNumberOrder b t s k l x f ≡ alarm n y → y ≡ x .0
 unfolding inNumberOrder
-order-names false t s k x f n y h = cc
-order-names true false s k x f n y h = cc
-order-names true true false k x f n y h = cc
-order-names true true true false x f n y h = cc
-order-names true true true true x f n y h = cc
+order-names false t s k l x f n y h = cc
+order-names true false s k l x f n y h = cc
+order-names true true false k l x f n y h = cc
+order-names true true true false l x f n y h = cc
+order-names true true true true false x f n y h = cc
+order-names true true true true true x f n y h = cc
 
 pick-names : (b : Bool) (x : VirtualAddress) (f : Found) (n : Alarm) (y : ℕ)
     → pick b (got f) (alarm alarms.Address (x .0)) ≡ alarm n y → y ≡ x .0
@@ -45,7 +46,8 @@ view-names s map m x w n y = go (userMode s)
     go : (u : Bool) → pick u (mapped map m) (unmapped m) x w ≡ alarm n y → y ≡ x .0
     go true h =
         let e = mapEntry map m (pageOf x) in
-        order-names (ltb (pageOf x) (map .length)) (present e) (undamaged (length m) e) (allows w e) x
+        order-names (ltb (pageOf x) (map .length)) (present e) (undamaged (length m) e) (allowsWrite w e)
+        (allowsFetch w e) x
         (foundAt m (inFrame (frameOf e) x)) n y h
     go false h = pick-names (ltb (x .0) (length m)) x (foundAt m (realOf x)) n y h
 

@@ -1,14 +1,15 @@
--- What a lookup says, in the terms of `machine`.
-use Prim.Native.Nat.{ℕ, _+_, _*_, _%_, _≤_}
+-- What a lookup says, and the bits that it asks for, in the terms of `machine`.
+use Prim.Native.Nat.{ℕ, _+_, _*_, _/_, _%_, _≤_}
 use mathlib.Core.Path.{_≡_}
 use lib.ListN.{length}
 use Rattle.machine.specs.declared.RealAddress.{RealAddress}
 use Rattle.machine.specs.declared.VirtualAddress.{VirtualAddress}
 use Rattle.machine.specs.declared.Access.{Access}
+use Rattle.machine.specs.declared.Access.the-variants.{Fetch, Read, Write}
 use Rattle.machine.specs.declared.Map.{Map}
 use Rattle.machine.specs.Words.{Memory}
 use Rattle.machine.specs.Alarms.{OrAlarm, got, alarm}
-use Rattle.machine.specs.Map.{Found, foundAt, viewBy}
+use Rattle.machine.specs.Map.{forbiddenBits, Found, foundAt, viewBy}
 use Rattle.lookup.specs.declared.Lookup.{Lookup}
 use Rattle.lookup.specs.declared.Lookup.the-variants as lookup
 use Rattle.lookup.specs.declared.Neighbour.{Neighbour}
@@ -19,6 +20,12 @@ pub record Fits (map : Map) (m : Memory) : Type 0 where
   pub inside : map .base .0 + 4 * map .length ≤ length m
   pub small : length m ≤ 16777216
   pub whole : length m % 512 ≡ 0
+
+-- the bits of an entry that must be 0 for an access: five, and for a fetch the one that forbids it
+abbrev pub closedBits : Access → ℕ → ℕ
+closedBits Fetch e = e / 0x100_0000 % 0x40
+closedBits Read e = forbiddenBits e
+closedBits Write e = forbiddenBits e
 
 -- a lookup in memory m
 abbrev pub lookupAs : Memory → Lookup → OrAlarm Found

@@ -4,7 +4,7 @@
 ghost use mathlib.Core.Path.{_≡_};
 ghost use mathlib.Core.Bool.{false};
 ghost use Prim.Native.Nat.{_<_, _≤_};
-ghost use Rattle.lookup.specs.Answers.{Fits, FoundBeside, lookupAs};
+ghost use Rattle.lookup.specs.Answers.{Fits, FoundBeside, closedBits, lookupAs};
 ghost use Rattle.machine.specs.Map.{inFrame, mapped, realOf, viewBy};
 ghost use Rattle.machine.specs.State.{userMode};
 use machine::Access;
@@ -33,6 +33,18 @@ fn in_frame(f: FrameNumber, x: VirtualAddress) -> RealAddress
     RealAddress(512 * f.0 + x.0 % 512)
 }
 
+// The bits of an entry that must be 0 for this access: five, and for a fetch the one that forbids
+// it.
+fn closed_bits(why: Access, e: u32) -> u32
+    ensures { λ r. ⌜ r ≡ closedBits why e ⌝ }
+{
+    match why {
+        Access::Fetch => e / 0x100_0000 % 0x40,
+        Access::Read => e / 0x100_0000 % 0x20,
+        Access::Write => e / 0x100_0000 % 0x20,
+    }
+}
+
 // In user mode.
 fn look_mapped(mem: &[u8], map: Map, x: VirtualAddress, why: Access) -> Lookup
     requires { ⌜ Fits map (now mem) ⌝ }
@@ -47,11 +59,16 @@ fn look_mapped(mem: &[u8], map: Map, x: VirtualAddress, why: Access) -> Lookup
     if e < 0x8000_0000 {
         return Lookup::Alarm(x, Alarm::Absent);
     }
-    // The forbidden bits stay above the frame number: with one of them set it is past every memory,
-    // so one test is 10.
-    let f = e % 0x4000_0000;
-    if mem.len() / 512 <= f as usize {
-        return Lookup::Alarm(x, Alarm::MapEntry);
+    // One test finds 10 and, for a fetch, 21; only behind it are they told apart. It is no branch,
+    // by `|`, since a branch here costs speed.
+    let f = e % 0x100_0000;
+    let bits = closed_bits(why, e);
+    let past = mem.len() / 512 <= f as usize;
+    if (bits != 0) | past {
+        if (bits % 0x20 != 0) | past {
+            return Lookup::Alarm(x, Alarm::MapEntry);
+        }
+        return Lookup::Alarm(x, Alarm::NoFetch);
     }
     match why {
         Access::Fetch => Lookup::At(in_frame(FrameNumber(f), x)),

@@ -20,11 +20,13 @@ pub mod Levels
 pub mod Refusals
 pub mod Accepted
 pub mod UserCalls
--- computed: the tried values, the near misses; shifts to the left, laws and steps
+-- computed: the tried values, the near misses; shifts to the left and pages without commands, laws
+-- and steps
 pub mod WholeStep
 pub mod TriedValues
 pub mod NearMisses
 pub mod LeftShifts
+pub mod PagesWithoutCommands
 -- demand 3
 pub mod Indistinguishable
 pub mod Isolation

@@ -21,8 +21,8 @@ use Rattle.machine.specs.Words.{pick, Memory, wrap}
 use Rattle.machine.specs.State.{frameStart, userMode}
 use Rattle.machine.specs.Alarms.{got, alarm}
 use Rattle.machine.specs.Map.{pageOf, mapEntry, present, forbiddenBits, frameOf, undamaged, Found, foundAt}
-use Rattle.machine.specs.Map.{inFrame, allows, inNumberOrder, View, mapped, unmapped, realOf, viewBy, readFrom}
-use Rattle.machine.specs.Map.{writesFrom, realWritesFrom, located}
+use Rattle.machine.specs.Map.{inFrame, allowsWrite, allowsFetch, inNumberOrder, View, mapped, unmapped, realOf}
+use Rattle.machine.specs.Map.{viewBy, readFrom, writesFrom, realWritesFrom, located}
 use Rattle.machine.proofs.Widths.{and-true}
 use Rattle.machine.proofs.Views.{order-got}
 
@@ -51,14 +51,15 @@ module _ {s : ℕ} {map : Map} {m : Memory} {x : VirtualAddress} {n : Alarm} whe
 module _ (m : Memory) (x : VirtualAddress) (w : Access) (a : RealAddress) where
   module _ (map : Map) (hit : mapped map m x w ≡ got (foundAt m a)) where
     mapped-tests : (ltb (pageOf x) (map .length) ≡ true) × (present (mapEntry map m (pageOf x)) ≡ true)
-        × (undamaged (length m) (mapEntry map m (pageOf x)) ≡ true) × (allows w (mapEntry map m (pageOf x)) ≡ true)
+        × (undamaged (length m) (mapEntry map m (pageOf x)) ≡ true)
+        × (allowsWrite w (mapEntry map m (pageOf x)) ≡ true) × (allowsFetch w (mapEntry map m (pageOf x)) ≡ true)
         × (foundAt m (inFrame (frameOf (mapEntry map m (pageOf x))) x) ≡ foundAt m a)
     unfolding mapped
-    mapped-tests = order-got _ _ _ _ _ _ _ hit
+    mapped-tests = order-got _ _ _ _ _ _ _ _ hit
 
     mapped-real : frameStart (frameOf (mapEntry map m (pageOf x))) + x .0 % 512 ≡ a .0
     unfolding inFrame
-    mapped-real = ap (λ (f : Found). f .real .0) (mapped-tests .4)
+    mapped-real = ap (λ (f : Found). f .real .0) (mapped-tests .5)
 
     mapped-inside : a .0 < length m
     unfolding undamaged
@@ -76,7 +77,7 @@ module _ (m : Memory) (x : VirtualAddress) (w : Access) (a : RealAddress) where
         let p : (x .0 + k) / 512 ≡ x .0 / 512 = omega arith in
         let r : frameStart (frameOf (mapEntry map m (pageOf x))) + (x .0 + k) % 512 ≡ a .0
         + k = omega (arith, mapped-real) in
-        rw (p, t .0, t .1, t .2, t .3, r)
+        rw (p, t .0, t .1, t .2, t .3, t .4, r)
 
   unmapped-tests : (b : Bool) (f g : Found) → pick b (got f) (alarm alarms.Address (x .0)) ≡ got g
       → (b ≡ true) × (f ≡ g)

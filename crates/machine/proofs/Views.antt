@@ -19,9 +19,9 @@ use Rattle.machine.specs.declared.Desk.{Desk}
 use Rattle.machine.specs.Words.{pick, Memory, byteAt, wordAt}
 use Rattle.machine.specs.State.{frameAround, systemBlockOf}
 use Rattle.machine.specs.Alarms.{OrAlarm, got, alarm, _>>=_}
-use Rattle.machine.specs.Map.{pageOf, mapEntry, present, frameOf, undamaged, Found, foundAt, inFrame, allows}
-use Rattle.machine.specs.Map.{inNumberOrder, mapped, VirtualWrites, RealWrites, located, Names, Reached}
-use Rattle.machine.specs.Map.{WritableReached, InMap}
+use Rattle.machine.specs.Map.{pageOf, mapEntry, present, frameOf, undamaged, Found, foundAt, inFrame}
+use Rattle.machine.specs.Map.{allowsWrite, allowsFetch, inNumberOrder, mapped, VirtualWrites, RealWrites}
+use Rattle.machine.specs.Map.{located, Names, Reached, WritableReached, InMap}
 use Rattle.machine.specs.Isolation.{InSystemBlock}
 use Rattle.machine.proofs.Writes.{Each}
 
@@ -75,14 +75,15 @@ module _ (map : Map) (m n : Memory) (size : length n ≡ length m)
 
 -- ---- One view
 
-order-same : (t s k : Bool) (x : VirtualAddress) (r : RealAddress) (m n : Memory)
+order-same : (t s k l : Bool) (x : VirtualAddress) (r : RealAddress) (m n : Memory)
     → (t ≡ true → s ≡ true → byteAt m (r .0) ≡ byteAt n (r .0))
-    → inNumberOrder true t s k x (foundAt m r) ≡ inNumberOrder true t s k x (foundAt n r)
+    → inNumberOrder true t s k l x (foundAt m r) ≡ inNumberOrder true t s k l x (foundAt n r)
 unfolding inNumberOrder
-order-same false s k x r m n h = refl
-order-same true false k x r m n h = refl
-order-same true true false x r m n h = refl
-order-same true true true x r m n h = let e = h refl refl in rw e
+order-same false s k l x r m n h = refl
+order-same true false k l x r m n h = refl
+order-same true true false l x r m n h = refl
+order-same true true true false x r m n h = refl
+order-same true true true true x r m n h = let e = h refl refl in rw e
 
 frame-of-real : (f : FrameNumber) (x : VirtualAddress) → f ≡ frameAround (inFrame f x .0)
 unfolding inFrame
@@ -98,9 +99,11 @@ module _ (map : Map) (m x y : Memory)
     where
       go : (z : VirtualAddress) (w : Access) (b : Bool) → ltb (pageOf z) (map .length) ≡ b
           → inNumberOrder b (present (mapEntry map x (pageOf z))) (undamaged (length x) (mapEntry map x (pageOf z)))
-          (allows w (mapEntry map x (pageOf z))) z (foundAt x (inFrame (frameOf (mapEntry map x (pageOf z))) z))
+          (allowsWrite w (mapEntry map x (pageOf z))) (allowsFetch w (mapEntry map x (pageOf z))) z
+          (foundAt x (inFrame (frameOf (mapEntry map x (pageOf z))) z))
           ≡ inNumberOrder b (present (mapEntry map y (pageOf z))) (undamaged (length y) (mapEntry map y (pageOf z)))
-          (allows w (mapEntry map y (pageOf z))) z (foundAt y (inFrame (frameOf (mapEntry map y (pageOf z))) z))
+          (allowsWrite w (mapEntry map y (pageOf z))) (allowsFetch w (mapEntry map y (pageOf z))) z
+          (foundAt y (inFrame (frameOf (mapEntry map y (pageOf z))) z))
       go z w false q = refl
       go z w true q =
           let h = ltb-true (pageOf z) (map .length) q in
@@ -110,7 +113,7 @@ module _ (map : Map) (m x y : Memory)
             lengthx,
             lengthy,
           )
-          (order-same _ _ _ z _ x y λ t s. frames _
+          (order-same _ _ _ _ z _ x y λ t s. frames _
           (record { page = pageOf z; names = record { below = h; there = t; whole = s; frame = frame-of-real _ z } }))
 
 -- ---- The system block
@@ -135,14 +138,15 @@ block-same d x y l h =
 
 -- ---- Writes go to writable reached frames
 
-pub order-got : (b t s k : Bool) (x : VirtualAddress) (f g : Found) → inNumberOrder b t s k x f ≡ got g
-    → (b ≡ true) × (t ≡ true) × (s ≡ true) × (k ≡ true) × (f ≡ g)
+pub order-got : (b t s k l : Bool) (x : VirtualAddress) (f g : Found) → inNumberOrder b t s k l x f ≡ got g
+    → (b ≡ true) × (t ≡ true) × (s ≡ true) × (k ≡ true) × (l ≡ true) × (f ≡ g)
 unfolding inNumberOrder
-order-got false t s k x f g h = (cc, cc, cc, cc, cc)
-order-got true false s k x f g h = (cc, cc, cc, cc, cc)
-order-got true true false k x f g h = (cc, cc, cc, cc, cc)
-order-got true true true false x f g h = (cc, cc, cc, cc, cc)
-order-got true true true true x f g h = (refl, refl, refl, refl, cc)
+order-got false t s k l x f g h = (cc, cc, cc, cc, cc, cc)
+order-got true false s k l x f g h = (cc, cc, cc, cc, cc, cc)
+order-got true true false k l x f g h = (cc, cc, cc, cc, cc, cc)
+order-got true true true false l x f g h = (cc, cc, cc, cc, cc, cc)
+order-got true true true true false x f g h = (cc, cc, cc, cc, cc, cc)
+order-got true true true true true x f g h = (refl, refl, refl, refl, refl, cc)
 
 -- the places of writes that were located have the property P
 abbrev pub EachLocated : (ℕ → Type 0) → OrAlarm RealWrites → Type 0
@@ -165,9 +169,9 @@ module _ (map : Map) (m x : Memory) (lengthx : length x ≡ length m)
     (mapx : (a : ℕ) → InMap map m a → byteAt x a ≡ byteAt m a) where
   found-writable : (z : VirtualAddress) (f : Found) → mapped map x z Write ≡ got f
       → WritableReached map m (frameAround (f .real .0))
-  unfolding mapped allows
+  unfolding mapped allowsWrite
   found-writable z f h =
-      let g = order-got _ _ _ _ _ _ _ h in
+      let g = order-got _ _ _ _ _ _ _ _ h in
       let below = ltb-true (pageOf z) (map .length) (g .0) in
       let e = entry-same map m x lengthx mapx (pageOf z) below in
       record {
@@ -178,7 +182,7 @@ module _ (map : Map) (m x : Memory) (lengthx : length x ≡ length m)
               there = rw e at (g .1);
               whole = rw (lengthx, e) at (g .2);
               frame = frame-of-real
-                  _ z ∙ ap (λ (k : Found). frameAround (k .real .0)) (rw e at (g .4));
+                  _ z ∙ ap (λ (k : Found). frameAround (k .real .0)) (rw e at (g .5));
             };
         write = rw e at (g .3);
       }

@@ -5,8 +5,9 @@ use Rattle.machine.specs.Words.{Memory, bytesOf, bytesOfWords, wordAt, w
 use Rattle.machine.specs.State.{allowedLength, withFlags, validStatus, validUserStatus, validKernelStatus}
 use Rattle.machine.specs.State.{isPending, withLevel, withoutLevel, systemBlockOf, registersFrom, savedBytes}
 use Rattle.machine.specs.State.{blockFits}
-use Rattle.machine.specs.Map.{mapEntry, present, writable, frameOf, undamaged, inFrame, allows, inNumberOrder}
-use Rattle.machine.specs.Map.{mapped, unmapped, viewBy, readFrom, writesFrom, realWritesFrom, located, commit}
+use Rattle.machine.specs.Map.{mapEntry, present, writable, fetchable, frameOf, undamaged, inFrame, allowsWrite}
+use Rattle.machine.specs.Map.{allowsFetch, inNumberOrder, mapped, unmapped, viewBy, readFrom, writesFrom}
+use Rattle.machine.specs.Map.{realWritesFrom, located, commit}
 use Rattle.machine.specs.Code.{table, knownIn, known}
 use Rattle.machine.specs.Operands.{fieldsAt, keepsRules, byForm, operandAt, valueIn, addressIn, targetIn}
 use Rattle.machine.specs.Operands.{takenBy, withTaken, operandsFrom}
@@ -23,14 +24,14 @@ use Rattle.machine.specs.Calls.{passes5, firstRefused, stepRefusal, unch
 use Rattle.machine.specs.Calls.{Stepped, stepOf}
 
 unfoldable pub wholeStep : Desk → Memory → Stepped
-unfolding bytesOf bytesOfWords wordAt wordsAt allowedLength withFlags validStatus validUserStatus
-    validKernelStatus isPending withLevel withoutLevel systemBlockOf registersFrom savedBytes blockFits mapEntry
-    present writable frameOf undamaged inFrame allows inNumberOrder mapped unmapped viewBy readFrom writesFrom
-    realWritesFrom located commit table knownIn known fieldsAt keepsRules byForm operandAt valueIn addressIn targetIn
-    takenBy withTaken operandsFrom negative signed fits modulo resultOf complement added subtracted multiplied divided
-    shiftedLeft shiftedRight shifted rotated operate compared keptRest stored pushed popped called returned jumps
-    commonDone knownOr12 allowedInUserMode allowedInKernelMode completionOf commandBy userEffect userCommand
-    kernelEffect kernelCommand stop halt completed due userWritten ofUserCommand interrupted userPlan enterIf
-    concluded userStep resume kernelWritten ofKernelCommand kernelStep oneStep passes5 firstRefused stepRefusal
-    unchanged unlessRefused stepOutcome stepOf
+unfolding bytesOf bytesOfWords wordAt wordsAt allowedLength withFlags validStatus validUserStatus validKernelStatus
+    isPending withLevel withoutLevel systemBlockOf registersFrom savedBytes blockFits mapEntry present writable
+    fetchable frameOf undamaged inFrame allowsWrite allowsFetch inNumberOrder mapped unmapped viewBy readFrom
+    writesFrom realWritesFrom located commit table knownIn known fieldsAt keepsRules byForm operandAt valueIn
+    addressIn targetIn takenBy withTaken operandsFrom negative signed fits modulo resultOf complement added subtracted
+    multiplied divided shiftedLeft shiftedRight shifted rotated operate compared keptRest stored pushed popped called
+    returned jumps commonDone knownOr12 allowedInUserMode allowedInKernelMode completionOf commandBy userEffect
+    userCommand kernelEffect kernelCommand stop halt completed due userWritten ofUserCommand interrupted userPlan
+    enterIf concluded userStep resume kernelWritten ofKernelCommand kernelStep oneStep passes5 firstRefused
+    stepRefusal unchanged unlessRefused stepOutcome stepOf
 wholeStep d m = stepOf d m

@@ -1,36 +1,57 @@
--- Document 01, "Numbers 1 to 16", 8 to 15: the alarms; a part of a command gives a value, or an
--- alarm with its argument.
+-- Document 01, "Numbers 1 to 16", 8 to 15, and document 02, F-4, 21: the alarms, each with its
+-- number and its cause; a part of a command gives a value, or an alarm with its argument.
 use Prim.Native.Nat.{ℕ}
+use lib.Dec.{eqb}
 use Rattle.machine.specs.declared.Alarm.{Alarm}
 use Rattle.machine.specs.declared.Alarm.the-variants as alarms
+use Rattle.machine.specs.Words.{pick}
 
-abbrev pub alarmNumber : Alarm → ℕ
+-- an alarm's number, and the cause of the kernel entry that it makes, which is the entry of the
+-- system block too
+pub record AlarmNumbers : Type 0 where
+  pub number : ℕ
+  pub cause : ℕ
+
+-- the cause is "the alarm number otherwise"
+abbrev pub itsOwnCause : ℕ → AlarmNumbers
+itsOwnCause n = record { number = n; cause = n }
+
+abbrev pub alarmNumbers : Alarm → AlarmNumbers
 -- "the page is at or past the map length, or in kernel mode the byte lies past the memory"
-alarmNumber alarms.Address = 8
+alarmNumbers alarms.Address = itsOwnCause 8
 -- "the entry is absent"
-alarmNumber alarms.Absent = 9
+alarmNumbers alarms.Absent = itsOwnCause 9
 -- "a present entry has a forbidden bit, or its frame lies past the memory"
-alarmNumber alarms.MapEntry = 10
+alarmNumbers alarms.MapEntry = itsOwnCause 10
 -- "a write meets an entry that isn't writable"
-alarmNumber alarms.ReadOnly = 11
+alarmNumbers alarms.ReadOnly = itsOwnCause 11
 -- "the command byte is unknown"
-alarmNumber alarms.Command = 12
+alarmNumbers alarms.Command = itsOwnCause 12
 -- "HALT or RESUME in user mode, or a system call in kernel mode"
-alarmNumber alarms.Mode = 13
+alarmNumbers alarms.Mode = itsOwnCause 13
 -- "an operand breaks a form rule, or RESUME's block breaks 3 or 4 or its status isn't a valid user
 -- status"
-alarmNumber alarms.Operand = 14
+alarmNumbers alarms.Operand = itsOwnCause 14
 -- "DIV by zero"
-alarmNumber alarms.Divide = 15
+alarmNumbers alarms.Divide = itsOwnCause 15
+-- F-4: "21, alarm for a command or operand byte fetched there, [..] cause and system block entry
+-- 2"; entry 21 is that of interrupt level 5
+alarmNumbers alarms.NoFetch = record { number = 21; cause = 2 }
 
--- the cause of the kernel entry that an alarm makes, and the entry of the system block: "the alarm
--- number otherwise". A definition of its own, since a later alarm may share an entry
+abbrev pub alarmNumber : Alarm → ℕ
+alarmNumber a = alarmNumbers a .number
+
 abbrev pub alarmCause : Alarm → ℕ
-alarmCause a = alarmNumber a
+alarmCause a = alarmNumbers a .cause
+
+-- by the code's count of the alarms: 8 to 15 as their numbers have it, then 16 for alarm 21 (no
+-- stop 16)
+abbrev pub numbersByCount : ℕ → AlarmNumbers
+numbersByCount n = pick (eqb n 16) (alarmNumbers alarms.NoFetch) (itsOwnCause n)
 
 -- "Arguments: 8 to 11 the byte's address, 12 and 13 the command byte, 14 the operand's place from
--- 1, 15 zero." "For one byte 8 to 11 are tried in number order; between parts of a command the
--- order of 'One step' rules."
+-- 1, 15 zero."; F-4, of 21: "argument the address". "For one byte 8 to 11 are tried in number
+-- order; between parts of a command the order of 'One step' rules."
 pub data OrAlarm (A : Type 0) : Type 0 where
   got : A → OrAlarm A
   alarm : Alarm → ℕ → OrAlarm A

@@ -149,7 +149,7 @@ stepAnswered (Refused k) e = stepAnswer.Refused k
 
 -- the paper's number of a step's answer: a refusal's, a cause, a stop's number; 0 for a command
 -- done, for which the paper has none. The case tells which it is: 0 is also HALT's stop, 1 also the
--- cause of a system call, and 8 to 15 are causes and stops
+-- cause of a system call, 2 also that of alarm 21, and 8 to 15 are causes and stops
 abbrev pub stepAnswerNumber : StepAnswer → ℕ
 stepAnswerNumber (stepAnswer.Refused k) = refusalNumber k
 stepAnswerNumber stepAnswer.Done = 0

@@ -8,9 +8,9 @@
 pub mod Words
 -- What the desk holds
 pub mod State
--- Numbers 1 to 16, 8 to 15: the alarms; a value, or an alarm
+-- Numbers 1 to 16, 8 to 15, and F-4: the alarms; a value, or an alarm
 pub mod Alarms
--- Map: entries, the lookup of one byte, reached frames
+-- Map, with F-4: entries, the lookup of one byte, reached frames
 pub mod Map
 -- Code: the table of command bytes
 pub mod Code
@@ -30,3 +30,5 @@ pub mod Isolation
 pub mod TriedValues
 -- document 02, F-2: what SH to the left does with V
 pub mod LeftShifts
+-- document 02, F-4: what pages without commands do
+pub mod PagesWithoutCommands

@@ -1,5 +1,5 @@
--- Document 01, "Map": map entries, the lookup of one byte with alarms 8 to 11, and the words
--- "damaged", "reached" and "writable reached".
+-- Document 01, "Map", with document 02, F-4, "Pages without commands": map entries, the lookup of
+-- one byte with alarms 8 to 11 and 21, and the words "damaged", "reached" and "writable reached".
 use Prim.Native.Nat.{ℕ, zero, suc, _+_, _-_, _*_, _/_, _%_, _≤_, _<_}
 use mathlib.Core.Path.{_≡_}
 use mathlib.Core.Bool.{Bool, true, false, _&&_}
@@ -38,9 +38,14 @@ present e = leb 0x8000_0000 e
 unfoldable pub writable : ℕ → Bool
 writable e = leb 0x4000_0000 (e % 0x8000_0000)
 
--- "the following six must be 0"
+-- F-4: "The map bit of value 20000000h now forbids fetching from a page"
+unfoldable pub fetchable : ℕ → Bool
+fetchable e = ltb (e % 0x4000_0000) 0x2000_0000
+
+-- "the following six must be 0"; F-4 takes the first of them: "Alarm 10 covers only the five bits
+-- below it"
 abbrev pub forbiddenBits : ℕ → ℕ
-forbiddenBits e = e / 0x100_0000 % 0x40
+forbiddenBits e = e / 0x100_0000 % 0x20
 
 -- "the low 24 bits are the frame number"
 unfoldable pub frameOf : ℕ → FrameNumber
@@ -65,29 +70,40 @@ unfoldable pub inFrame : FrameNumber → VirtualAddress → RealAddress
 inFrame f x = record { 0 = frameStart f + x .0 % 512 }
 
 -- 11: "a write meets an entry that isn't writable"
-unfoldable pub allows : Access → ℕ → Bool
-allows Fetch e = true
-allows Read e = true
-allows Write e = writable e
+unfoldable pub allowsWrite : Access → ℕ → Bool
+allowsWrite Fetch e = true
+allowsWrite Read e = true
+allowsWrite Write e = writable e
 
--- "For one byte 8 to 11 are tried in number order"; their argument is "the byte's address". The
--- tests: the page is below the map length, the entry present, undamaged, and open to the access
-unfoldable pub inNumberOrder : Bool → Bool → Bool → Bool → VirtualAddress → Found → OrAlarm Found
-inNumberOrder false there whole allowed x f = alarm alarms.Address (x .0)
-inNumberOrder true false whole allowed x f = alarm alarms.Absent (x .0)
-inNumberOrder true true false allowed x f = alarm alarms.MapEntry (x .0)
-inNumberOrder true true true false x f = alarm alarms.ReadOnly (x .0)
-inNumberOrder true true true true x f = got f
+-- 21: "a command or operand byte fetched there"; "reading stays allowed", and writing is 11's
+unfoldable pub allowsFetch : Access → ℕ → Bool
+allowsFetch Fetch e = fetchable e
+allowsFetch Read e = true
+allowsFetch Write e = true
 
--- what a command sees of the memory: for each address and reason the byte, or an alarm
+-- "For one byte 8 to 11 are tried in number order", and 21, which F-4 wants "tried after 10", after
+-- them (no byte is both written and fetched); their argument is "the byte's address". The tests:
+-- the page is below the map length, the entry present, undamaged, open to writing if the byte is
+-- written, open to fetching if it is fetched
+unfoldable pub inNumberOrder : Bool → Bool → Bool → Bool → Bool → VirtualAddress → Found → OrAlarm Found
+inNumberOrder false there whole write fetch x f = alarm alarms.Address (x .0)
+inNumberOrder true false whole write fetch x f = alarm alarms.Absent (x .0)
+inNumberOrder true true false write fetch x f = alarm alarms.MapEntry (x .0)
+inNumberOrder true true true false fetch x f = alarm alarms.ReadOnly (x .0)
+inNumberOrder true true true true false x f = alarm alarms.NoFetch (x .0)
+inNumberOrder true true true true true x f = got f
+
+-- what a command sees of the memory: for each address and reason the byte, or an alarm. F-4: "The
+-- lookup must therefore be told why a byte is wanted." Fetched are the bytes of a command: its
+-- command byte, and each of an operand's six; all others are read or written
 abbrev pub View : Type 0
 View = VirtualAddress → Access → OrAlarm Found
 
 -- user mode
 unfoldable pub mapped : Map → Memory → View
 mapped map m x w = let e = mapEntry map m (pageOf x) in
-    inNumberOrder (ltb (pageOf x) (map .length)) (present e) (undamaged (length m) e) (allows w e) x
-    (foundAt m (inFrame (frameOf e) x))
+    inNumberOrder (ltb (pageOf x) (map .length)) (present e) (undamaged (length m) e) (allowsWrite w e)
+    (allowsFetch w e) x (foundAt m (inFrame (frameOf e) x))
 
 -- "In kernel mode an address is real"
 abbrev pub realOf : VirtualAddress → RealAddress
@@ -156,7 +172,7 @@ pub record Names (map : Map) (m : Memory) (p : ℕ) (f : FrameNumber) : Type 0 w
   pub whole : undamaged (length m) (mapEntry map m p) ≡ true
   pub frame : frameOf (mapEntry map m p) ≡ f
 
--- "A frame is reached"
+-- "A frame is reached"; F-4, of pages without commands: "Such pages are still reached frames"
 pub record Reached (map : Map) (m : Memory) (f : FrameNumber) : Type 0 where
   pub page : ℕ
   pub names : Names map m page f

@@ -71,7 +71,7 @@ userWritten r s p d (got ws) = continues (d .registers) (withFlags s (d .flags))
 userWritten r s p d (alarm k x) = enters (alarmCause k) r x p
 
 -- cause "1 for a system call (argument its value, saved R15 the next command)", "the alarm number
--- otherwise (saved R15 the command's own address)"
+-- otherwise (saved R15 the command's own address)" (F-4: 2 for alarm 21)
 unfoldable pub ofUserCommand : Registers → ℕ → ℕ → View → OrAlarm (Completion SystemCall) → Plan
 ofUserCommand r s p v (got (done d)) = userWritten r s p d (located v (d .writes))
 ofUserCommand r s p v (got (ofMode c)) = enters 1 (c .registers) (c .argument) p

@@ -1,7 +1,7 @@
 // The MI desk's types. What they mean is defined in specs/, in document 01's order.
 ghost use mathlib.Core.Path.{_≡_};
 ghost use Rattle.machine.specs.Words.{lengthOf};
-ghost use Rattle.machine.specs.Alarms.{alarmNumber, alarmCause};
+ghost use Rattle.machine.specs.Alarms.{alarmCause, alarmNumber, alarmNumbers, numbersByCount};
 ghost use Rattle.machine.specs.Calls.{refusalNumber, answerNumber, stepAnswerNumber};
 
 // The bytes of the system block and of the control block.
@@ -21,7 +21,7 @@ pub struct RealAddress(pub u32);
 // A frame is 512 bytes of memory; frame f starts at 512 * f.
 pub struct FrameNumber(pub u32);
 
-// Why a byte is wanted. Fetch and Read are allowed alike.
+// Why a byte is wanted: as a byte of a command, to be read, or to be written.
 pub enum Access {
     Fetch,
     Read,
@@ -57,7 +57,7 @@ pub struct Result {
     pub flags: u32,
 }
 
-// Why a command was broken off: alarms 8 to 15.
+// Why a command was broken off: alarms 8 to 15 and 21.
 pub enum Alarm {
     Address,
     Absent,
@@ -67,6 +67,7 @@ pub enum Alarm {
     Mode,
     Operand,
     Divide,
+    NoFetch,
 }
 
 // Where the map lies: its base, and its length in entries.
@@ -152,9 +153,10 @@ impl Size {
 }
 
 impl Alarm {
-    // Its number in document 01.
-    pub fn number(self) -> u32
-        ensures { λ r. ⌜ r ≡ alarmNumber self ⌝ }
+    // Its place in a count from 8 on: of 8 to 15 the number and the cause, of 21 it is 16. The
+    // compiler makes a sum of a count without gaps, where the numbers themselves need a table.
+    fn count(self) -> u32
+        ensures { λ r. ⌜ alarmNumbers self ≡ numbersByCount r ⌝ }
     {
         match self {
             Alarm::Address => 8,
@@ -165,14 +167,30 @@ impl Alarm {
             Alarm::Mode => 13,
             Alarm::Operand => 14,
             Alarm::Divide => 15,
+            Alarm::NoFetch => 16,
         }
     }
 
-    // The cause of the kernel entry that it makes in user mode.
+    // Its number in documents 01 and 02.
+    pub fn number(self) -> u32
+        ensures { λ r. ⌜ r ≡ alarmNumber self ⌝ }
+    {
+        let n = self.count();
+        if n == 16 {
+            return 21;
+        }
+        n
+    }
+
+    // The cause of the kernel entry that it makes in user mode: its number, but 2 for 21.
     pub fn cause(self) -> u32
         ensures { λ r. ⌜ r ≡ alarmCause self ⌝ }
     {
-        self.number()
+        let n = self.count();
+        if n == 16 {
+            return 2;
+        }
+        n
     }
 }
 
@@ -207,7 +225,7 @@ impl Answer {
 
 impl StepAnswer {
     // The number of its refusal, its cause or its stop; 0 for a command done. The case tells which:
-    // 0 is also a HALT, 1 also a system call.
+    // 0 is also a HALT, 1 also a system call, 2 also alarm 21.
     pub fn number(self) -> u32
         ensures { λ r. ⌜ r ≡ stepAnswerNumber self ⌝ }
     {

@@ -117,19 +117,21 @@ Seen t = Got (λ (f : Found). f .byte < 256) t
 abbrev pub Sees : View → Type 0
 Sees v = (x : VirtualAddress) (w : Access) → Seen (v x w)
 
-order-seen : (a b c d : Bool) (x : VirtualAddress) (f : Found) → f .byte < 256 → Seen (inNumberOrder a b c d x f)
+order-seen : (a b c d e : Bool) (x : VirtualAddress) (f : Found) → f .byte < 256
+    → Seen (inNumberOrder a b c d e x f)
 unfolding inNumberOrder
-order-seen false b c d x f h = tt
-order-seen true false c d x f h = tt
-order-seen true true false d x f h = tt
-order-seen true true true false x f h = tt
-order-seen true true true true x f h = h
+order-seen false b c d e x f h = tt
+order-seen true false c d e x f h = tt
+order-seen true true false d e x f h = tt
+order-seen true true true false e x f h = tt
+order-seen true true true true false x f h = tt
+order-seen true true true true true x f h = h
 
 pub view-sees : (s : ℕ) (map : Map) (m : Memory) → Below 256 m → Sees (viewBy s map m)
 unfolding viewBy mapped unmapped
 view-sees s map m h x w =
     picked (λ (v : View). Seen (v x w)) (userMode s) (mapped map m) (unmapped m)
-    (order-seen _ _ _ _ x _ (h .at _))
+    (order-seen _ _ _ _ _ x _ (h .at _))
     (picked Seen (ltb (x .0) (length m)) _ _ (h .at (x .0)) tt)
 
 -- ---- Reads

@@ -33,7 +33,7 @@ use Rattle.machine.proofs.Bytes.{bytes-length, bytes-small}
 use Rattle.machine.proofs.Blocks.{words-length}
 use Rattle.layout.specs.Layout.{stateBytes, runs, markNumber, markOf, otherWords, wordsOf, packed, unpacked}
 use Rattle.layout.proofs.RoundTrip.{Held}
-use Rattle.midesk.proofs.Stops.{picked, small-alarm, Representable}
+use Rattle.midesk.proofs.Stops.{picked, highest, small-alarm, Representable}
 use Rattle.midesk.proofs.Room.{Word, Below, none-below, cons-below, tail-below, append-below, set-below}
 use Rattle.midesk.proofs.Room.{part-below, word-held, words-held, words-count, Sixteen, set-held, Got, bound}
 use Rattle.midesk.proofs.Room.{after, Sees, view-sees}
@@ -191,7 +191,7 @@ module _ (d : Desk) (h : Room d) where
     mark = hk;
   }
 
-  stop-held : (n : ℕ) → n ≤ 16 → HeldOutcome (stop n d)
+  stop-held : (n : ℕ) → n ≤ highest → HeldOutcome (stop n d)
   unfolding stop
   stop-held n q =
       record { desk = changed _ _ _ (Stopped n) (h .registers) (h .status) (h .pending) (omega arith); writes = tt }

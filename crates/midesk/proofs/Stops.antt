@@ -1,5 +1,5 @@
--- No call stops a desk with the number whose bytes say that it runs: every stop has a number of
--- document 01, at most 16.
+-- No call stops a desk with the number whose bytes say that it runs: every stop has a number of the
+-- papers, and these are small.
 use Prim.Native.Nat.{ℕ, zero, suc, _+_, _≤_}
 use mathlib.Core.Path.{_≡_, refl, ap}
 use mathlib.Core.Bool.{Bool, true, false, _&&_}
@@ -44,13 +44,17 @@ picked P false a b h k = k
 abbrev pub Representable : Mark → Type 0
 Representable k = k ≢ Stopped runs
 
-stops : (n : ℕ) → n ≤ 16 → Representable (Stopped n)
+-- the highest number of an alarm; the refusals of a desk and stop 16 lie below it
+abbrev pub highest : ℕ
+highest = 21
+
+stops : (n : ℕ) → n ≤ highest → Representable (Stopped n)
 stops n h e = let q : n ≡ runs = ap markNumber e in omega arith
 
 running : Representable Running
 running e = let z : _≡_ {A = ℕ} 0 1 = cc in omega arith
 
-pub small-alarm : (a : Alarm) → alarmNumber a ≤ 16
+pub small-alarm : (a : Alarm) → alarmNumber a ≤ highest
 small-alarm alarms.Address = omega arith
 small-alarm alarms.Absent = omega arith
 small-alarm alarms.MapEntry = omega arith
@@ -59,8 +63,9 @@ small-alarm alarms.Command = omega arith
 small-alarm alarms.Mode = omega arith
 small-alarm alarms.Operand = omega arith
 small-alarm alarms.Divide = omega arith
+small-alarm alarms.NoFetch = omega arith
 
-pub small-number : (k : Refusal) → refusalNumber k ≤ 16
+pub small-number : (k : Refusal) → refusalNumber k ≤ highest
 small-number refusal.Length = omega arith
 small-number refusal.SystemBlock = omega arith
 small-number refusal.ControlBlock = omega arith

@@ -20,7 +20,7 @@ use Rattle.machine.specs.Map.{mapEntry, present, frameOf, undamaged, Reached}
 use Rattle.machine.specs.Calls.{passes6, requestRefusal, requestOutcome}
 use Rattle.machine.specs.Isolation.{step, Premise, inUserMode, oneLength, sameMap, sameSystemBlock, sameReachedFrames}
 use Rattle.machine.specs.Isolation.{mapNotWritable, Holds}
-use Rattle.premises.specs.Premises.{Met, Needed, EachNeeded}
+use Rattle.premises.specs.Premises.{MetByInterrupt, MetByAlarm21, Needed, EachNeeded}
 use Rattle.machine.proofs.WholeStep.{wholeStep}
 
 -- ---- The desks and the memories
@@ -41,13 +41,17 @@ deskAt s r15 = record {
   mark = Running;
 }
 
--- from 1024 on: MOVE B I 80h,524; 1037: MOVE B 1536,R0; 1050: MOVE W I 5,1280; 1063: SH I 30,1280,R1
+-- from 1024 on: MOVE B I 80h,524; 1037: MOVE B 1536,R0; 1050: MOVE W I 5,1280; 1063: SH I
+-- 30,1280,R1; 1082: MOVE W I 5,256; 1095: SH I 30,256,R1; 1114: JUMP 256
 code : List ℕ
 code =
     0x10 ∷ 1 ∷ 0x00 ∷ 0 ∷ 0 ∷ 0x00 ∷ 0x80 ∷ 0 ∷ 0x00 ∷ 0 ∷ 0 ∷ 0x02 ∷ 0x0C
     ∷ 0x10 ∷ 0 ∷ 0x00 ∷ 0 ∷ 0 ∷ 0x06 ∷ 0x00 ∷ 2 ∷ 0x00 ∷ 0 ∷ 0 ∷ 0x00 ∷ 0x00
     ∷ 0x12 ∷ 1 ∷ 0x00 ∷ 0 ∷ 0 ∷ 0x00 ∷ 0x05 ∷ 0 ∷ 0x00 ∷ 0 ∷ 0 ∷ 0x05 ∷ 0x00
     ∷ 0x60 ∷ 1 ∷ 0x00 ∷ 0 ∷ 0 ∷ 0x00 ∷ 0x1E ∷ 0 ∷ 0x00 ∷ 0 ∷ 0 ∷ 0x05 ∷ 0x00 ∷ 2 ∷ 0x10 ∷ 0 ∷ 0 ∷ 0x00 ∷ 0x00
+    ∷ 0x12 ∷ 1 ∷ 0x00 ∷ 0 ∷ 0 ∷ 0x00 ∷ 0x05 ∷ 0 ∷ 0x00 ∷ 0 ∷ 0 ∷ 0x01 ∷ 0x00
+    ∷ 0x60 ∷ 1 ∷ 0x00 ∷ 0 ∷ 0 ∷ 0x00 ∷ 0x1E ∷ 0 ∷ 0x00 ∷ 0 ∷ 0 ∷ 0x01 ∷ 0x00 ∷ 2 ∷ 0x10 ∷ 0 ∷ 0 ∷ 0x00 ∷ 0x00
+    ∷ 0x70 ∷ 0 ∷ 0x00 ∷ 0 ∷ 0 ∷ 0x01 ∷ 0x00
     ∷ []
 
 -- k entries of the system block, with R15 0 and status 80000000h
@@ -59,12 +63,12 @@ block (suc k) = 0 ∷ 0 ∷ 0 ∷ 0 ∷ 0x80 ∷ 0 ∷ 0 ∷ 0 ∷ block k
 filled : List ℕ → List ℕ
 filled bs = bs ++ replicate (512 - length bs) 0
 
--- four frames: system block, map, code, zeros. Pages 0 to 3 have the map entries 0, 1 with the
--- highest byte top1, C0000002h, and frame3 with the highest byte top3
-memoryOf : ℕ → ℕ → ℕ → Memory
-memoryOf top1 top3 frame3 =
+-- four frames: system block, map, code, zeros. Pages 0 to 3 name the frames 2, 1, 2 and frame3,
+-- with the highest bytes top0, top1, C0h and top3 of their entries
+memoryOf : ℕ → ℕ → ℕ → ℕ → Memory
+memoryOf top0 top1 top3 frame3 =
     filled (block 32)
-    ++ filled (0 ∷ 0 ∷ 0 ∷ 0 ∷ top1 ∷ 0 ∷ 0 ∷ 1 ∷ 0xC0 ∷ 0 ∷ 0 ∷ 2 ∷ top3 ∷ 0 ∷ 0 ∷ frame3 ∷ [])
+    ++ filled (top0 ∷ 0 ∷ 0 ∷ 2 ∷ top1 ∷ 0 ∷ 0 ∷ 1 ∷ 0xC0 ∷ 0 ∷ 0 ∷ 2 ∷ top3 ∷ 0 ∷ 0 ∷ frame3 ∷ [])
     ++ filled code
     ++ filled []
 
@@ -151,21 +155,46 @@ computing = tt
 
 -- MOVE W I 5,1280, SH I 30,1280,R1 with V alone, a request of level 5, kernel entry 21; a byte of
 -- frame 3 differs
-pub premises-met : Met
+pub met-by-interrupt : MetByInterrupt
 unfolding computing
-premises-met = record {
+met-by-interrupt = record {
   desk = deskAt 0 1050;
-  memory = memoryOf 0 0 3;
-  other = set (memoryOf 0 0 3) 1536 1;
+  memory = memoryOf 0 0 0 3;
+  other = set (memoryOf 0 0 0 3) 1536 1;
   differ = λ e. eqb-false 0 1 refl (ap (λ (x : Memory). byteAt x 1536) e);
   premises =
-      λ p. held-where 0 1050 (memoryOf 0 0 3) 1536 1 (λ q. Unit {0}) (λ n. refl) (λ n. refl) (λ n. refl) (λ n. refl)
+      λ p. held-where 0 1050 (memoryOf 0 0 0 3) 1536 1 (λ q. Unit {0}) (λ n. refl) (λ n. refl) (λ n. refl) (λ n. refl)
       (λ n. refl) p tt;
   usable = record { held = refl; accepted = (refl, (refl, (refl, (refl, tt)))) };
   usable′ = record { held = refl; accepted = (refl, (refl, (refl, (refl, tt)))) };
   writes = λ e. eqb-false 5 0 refl (ap (λ (x : Memory). byteAt x 1283) e);
   saved = savedBytes (0 ∷ 0x4000_0000 ∷ replicate 13 0 ++ 1082 ∷ []) 2 5;
   ends = refl;
+}
+
+-- MOVE W I 5,256, SH I 30,256,R1 with V alone, a request of level 5 at level 5, JUMP 256, kernel
+-- entry 2: page 0 is frame 2 without commands, as page 2 is with them; a byte of frame 3 differs
+pub met-by-alarm-21 : MetByAlarm21
+unfolding computing
+met-by-alarm-21 = record {
+  met = record {
+    desk = deskAt 0x50 1082;
+    memory = memoryOf 0xE0 0 0 3;
+    other = set (memoryOf 0xE0 0 0 3) 1536 1;
+    differ = λ e. eqb-false 0 1 refl (ap (λ (x : Memory). byteAt x 1536) e);
+    premises =
+        λ p. held-where 0x50 1082 (memoryOf 0xE0 0 0 3) 1536 1 (λ q. Unit {0}) (λ n. refl) (λ n. refl) (λ n. refl)
+        (λ n. refl) (λ n. refl) p tt;
+    usable = record { held = refl; accepted = (refl, (refl, (refl, (refl, (refl, tt))))) };
+    usable′ = record { held = refl; accepted = (refl, (refl, (refl, (refl, (refl, tt))))) };
+    writes = λ e. eqb-false 5 0 refl (ap (λ (x : Memory). byteAt x 1283) e);
+    saved = savedBytes (0 ∷ 0x4000_0000 ∷ replicate 13 0 ++ 256 ∷ []) 0x52 256;
+    ends = refl;
+  };
+  address = record { 0 = 256 };
+  there = record { below = omega arith; there = refl; whole = refl; closed = refl };
+  argument = refl;
+  written = λ e. eqb-false 5 0 refl e;
 }
 
 -- ---- Each premise needed
@@ -175,10 +204,10 @@ user-mode-needed : Needed inUserMode
 unfolding computing
 user-mode-needed = record {
   desk = deskAt 0x8000_0000 1037;
-  memory = memoryOf 0 0 3;
-  other = set (memoryOf 0 0 3) 1536 1;
+  memory = memoryOf 0 0 0 3;
+  other = set (memoryOf 0 0 0 3) 1536 1;
   others =
-      held-where 0x8000_0000 1037 (memoryOf 0 0 3) 1536 1 (λ q. q ≢ inUserMode) (λ n. absurd (n refl)) (λ n. refl)
+      held-where 0x8000_0000 1037 (memoryOf 0 0 0 3) 1536 1 (λ q. q ≢ inUserMode) (λ n. absurd (n refl)) (λ n. refl)
       (λ n. refl) (λ n. refl) (λ n. refl);
   calls = step ∷ [];
   usable = record { held = refl; accepted = (refl, tt) };
@@ -212,9 +241,9 @@ one-length-needed : Needed oneLength
 unfolding computing
 one-length-needed = record {
   desk = deskAt 0 1037;
-  memory = memoryOf 0 0x80 4;
-  other = memoryOf 0 0x80 4 ++ replicate 512 0;
-  others = held-but-length (memoryOf 0 0x80 4) 512 refl;
+  memory = memoryOf 0 0 0x80 4;
+  other = memoryOf 0 0 0x80 4 ++ replicate 512 0;
+  others = held-but-length (memoryOf 0 0 0x80 4) 512 refl;
   calls = step ∷ [];
   usable = record { held = refl; accepted = (refl, tt) };
   usable′ = record { held = refl; accepted = (refl, tt) };
@@ -226,10 +255,10 @@ same-map-needed : Needed sameMap
 unfolding computing
 same-map-needed = record {
   desk = deskAt 0 1037;
-  memory = memoryOf 0 0x80 3;
-  other = set (memoryOf 0 0x80 3) 524 0;
+  memory = memoryOf 0 0 0x80 3;
+  other = set (memoryOf 0 0 0x80 3) 524 0;
   others =
-      held-where 0 1037 (memoryOf 0 0x80 3) 524 0 (λ q. q ≢ sameMap) (λ n. refl) (λ n. absurd (n refl)) (λ n. refl)
+      held-where 0 1037 (memoryOf 0 0 0x80 3) 524 0 (λ q. q ≢ sameMap) (λ n. refl) (λ n. absurd (n refl)) (λ n. refl)
       (λ n. refl) (λ n. refl);
   calls = step ∷ [];
   usable = record { held = refl; accepted = (refl, tt) };
@@ -243,10 +272,10 @@ same-system-block-needed : Needed sameSystemBlock
 unfolding computing
 same-system-block-needed = record {
   desk = deskAt 0 1037;
-  memory = memoryOf 0 0 3;
-  other = set (memoryOf 0 0 3) 75 1;
+  memory = memoryOf 0 0 0 3;
+  other = set (memoryOf 0 0 0 3) 75 1;
   others =
-      held-where 0 1037 (memoryOf 0 0 3) 75 1 (λ q. q ≢ sameSystemBlock) (λ n. refl) (λ n. refl)
+      held-where 0 1037 (memoryOf 0 0 0 3) 75 1 (λ q. q ≢ sameSystemBlock) (λ n. refl) (λ n. refl)
       (λ n. absurd (n refl)) (λ n. refl) (λ n. refl);
   calls = step ∷ [];
   usable = record { held = refl; accepted = (refl, tt) };
@@ -254,15 +283,16 @@ same-system-block-needed = record {
   broken = λ h. differ-by (register 15) refl (h .calls .0 .desks);
 }
 
--- page 3 names frame 3, and MOVE B 1536,R0 reads a byte of it that differs
+-- page 3 names frame 3, without commands, and MOVE B 1536,R0 reads a byte of it that differs: such
+-- a frame is a reached one
 same-reached-frames-needed : Needed sameReachedFrames
 unfolding computing
 same-reached-frames-needed = record {
   desk = deskAt 0 1037;
-  memory = memoryOf 0 0x80 3;
-  other = set (memoryOf 0 0x80 3) 1536 1;
+  memory = memoryOf 0 0 0xA0 3;
+  other = set (memoryOf 0 0 0xA0 3) 1536 1;
   others =
-      held-where 0 1037 (memoryOf 0 0x80 3) 1536 1 (λ q. q ≢ sameReachedFrames) (λ n. refl) (λ n. refl) (λ n. refl)
+      held-where 0 1037 (memoryOf 0 0 0xA0 3) 1536 1 (λ q. q ≢ sameReachedFrames) (λ n. refl) (λ n. refl) (λ n. refl)
       (λ n. absurd (n refl)) (λ n. refl);
   calls = step ∷ [];
   usable = record { held = refl; accepted = (refl, tt) };
@@ -270,16 +300,16 @@ same-reached-frames-needed = record {
   broken = λ h. differ-by (register 0) refl (h .calls .0 .desks);
 }
 
--- page 1 names frame 1, writable, where the map lies: MOVE B I 80h,524 makes page 3 name frame 3,
--- and MOVE B 1536,R0 reads a byte of it that differs
+-- page 1 names frame 1, writable and without commands, where the map lies: MOVE B I 80h,524 makes
+-- page 3 name frame 3, and MOVE B 1536,R0 reads a byte of it that differs
 map-not-writable-needed : Needed mapNotWritable
 unfolding computing
 map-not-writable-needed = record {
   desk = deskAt 0 1024;
-  memory = memoryOf 0xC0 0 3;
-  other = set (memoryOf 0xC0 0 3) 1536 1;
+  memory = memoryOf 0 0xE0 0 3;
+  other = set (memoryOf 0 0xE0 0 3) 1536 1;
   others =
-      held-where 0 1024 (memoryOf 0xC0 0 3) 1536 1 (λ q. q ≢ mapNotWritable) (λ n. refl) (λ n. refl) (λ n. refl)
+      held-where 0 1024 (memoryOf 0 0xE0 0 3) 1536 1 (λ q. q ≢ mapNotWritable) (λ n. refl) (λ n. refl) (λ n. refl)
       (λ n. refl) (λ n. absurd (n refl));
   calls = step ∷ step ∷ [];
   usable = record { held = refl; accepted = (refl, (refl, tt)) };

@@ -7,14 +7,17 @@ use mathlib.Core.Bool.{Bool, true, _&&_}
 use mathlib.Core.List.{List, [], _∷_}
 use mathlib.Core.Option.{some}
 use lib.Dec.{ltb, eqb}
-use lib.ListN.{length}
+use lib.ListN.{length, drop}
 use Rattle.machine.specs.declared.Desk.{Desk}
+use Rattle.machine.specs.declared.VirtualAddress.{VirtualAddress}
 use Rattle.machine.specs.declared.Answer.the-variants.{Accepted}
-use Rattle.machine.specs.Words.{Memory}
+use Rattle.machine.specs.Words.{Memory, bytesOf, wordAt}
 use Rattle.machine.specs.State.{isRunning}
+use Rattle.machine.specs.Map.{pageOf, mapEntry, frameOf, inFrame}
 use Rattle.machine.specs.Steps.{entered}
 use Rattle.machine.specs.Isolation.{Call, step, request, refusalOf, nextDesk, nextMemory, Premise, Holds, endOf}
 use Rattle.machine.specs.Isolation.{Isolated}
+use Rattle.machine.specs.PagesWithoutCommands.{WithoutCommands}
 
 -- ---- Desks and memories that the code can meet, and calls that it carries out
 
@@ -43,23 +46,36 @@ pub record Usable (cs : List Call) (d : Desk) (m : Memory) : Type 0 where
 
 -- ---- The premises can be met
 
--- two commands, a request of level 5, and the step that it interrupts
-abbrev pub fourCalls : List Call
-fourCalls = step ∷ step ∷ request 5 ∷ step ∷ []
-
-pub record Met : Type 0 where
+-- by calls of which the one at a place, counted from 0, enters the kernel with a cause
+pub record Met (calls : List Call) (place cause : ℕ) : Type 0 where
   pub desk : Desk
   pub memory : Memory
   pub other : Memory
   pub differ : memory ≢ other
   pub premises : (p : Premise) → Holds p desk memory other
-  pub usable : Usable fourCalls desk memory
-  pub usable′ : Usable fourCalls desk other
+  pub usable : Usable calls desk memory
+  pub usable′ : Usable calls desk other
   -- the first command changes the memory
   pub writes : nextMemory step desk memory ≢ memory
-  -- three calls are quiet, the fourth enters the kernel with cause 16 + 5
+  -- the calls before that one are quiet
   pub saved : List ℕ
-  pub ends : endOf 0 fourCalls desk memory ≡ some (3, entered 21 saved)
+  pub ends : endOf 0 calls desk memory ≡ some (place, entered cause saved)
+
+-- two commands, a request of level 5, and the step that it interrupts, with cause 16 + 5
+abbrev pub MetByInterrupt : Type 0
+MetByInterrupt = Met (step ∷ step ∷ request 5 ∷ step ∷ []) 3 21
+
+-- document 02, F-4, "the isolation of carriers is shown with the new bit": two commands, a request
+-- that the status level holds back, a jump, and a step that is alarm 21, with cause 2. Its argument
+-- is an address in a page without commands, where the first command wrote
+pub record MetByAlarm21 : Type 0 where
+  pub met : Met (step ∷ step ∷ request 5 ∷ step ∷ step ∷ []) 4 2
+  pub address : VirtualAddress
+  pub there : WithoutCommands (met .desk .map) (met .memory) address
+  pub argument : drop 68 (met .saved) ≡ bytesOf 4 (address .0)
+  pub written : let f = frameOf (mapEntry (met .desk .map) (met .memory) (pageOf address)) in
+      let a = inFrame f address .0 in
+      wordAt (nextMemory step (met .desk) (met .memory)) a ≢ wordAt (met .memory) a
 
 -- ---- Each premise is needed: with all the others but without this one, some list of calls tells the memories apart
 

@@ -16,8 +16,8 @@ use Rattle.machine.specs.declared.VirtualAddress.{VirtualAddress}
 use Rattle.machine.specs.Words.{pick, Memory, wordAt}
 use Rattle.machine.specs.State.{userMode}
 use Rattle.machine.specs.Alarms.{got, alarm}
-use Rattle.machine.specs.Map.{pageOf, mapEntry, present, frameOf, undamaged, Found, foundAt, inFrame, inNumberOrder}
-use Rattle.machine.specs.Map.{allows, mapped, unmapped, viewBy, readBytes}
+use Rattle.machine.specs.Map.{pageOf, mapEntry, present, frameOf, undamaged, Found, foundAt, inFrame, allowsWrite}
+use Rattle.machine.specs.Map.{allowsFetch, inNumberOrder, mapped, unmapped, viewBy, readBytes}
 use Rattle.machine.proofs.Pages.{Finds, page-inside}
 use Rattle.machine.proofs.Views.{order-got}
 use Rattle.words.proofs.Values.{four-byte-value}
@@ -44,7 +44,7 @@ unfolding viewBy mapped unmapped
 found-small s {map} {m} x w {f} fits = go (userMode s)
   where
     go : (u : Bool) → pick u (mapped map m) (unmapped m) x w ≡ got f → x .0 < 0x1_0000_0000
-    go true h = let below = ltb-true (pageOf x) (map .length) (order-got _ _ _ _ _ _ _ h .0) in omega arith
+    go true h = let below = ltb-true (pageOf x) (map .length) (order-got _ _ _ _ _ _ _ _ h .0) in omega arith
     go false h =
         let below = ltb-true (x .0) (length m) (test-held (ltb (x .0) (length m)) _ _ _ _ h) in omega arith
 
@@ -52,16 +52,16 @@ found-small s {map} {m} x w {f} fits = go (userMode s)
 
 readable : (s : ℕ) (map : Map) (m : Memory) (x : VirtualAddress) (w : Access) (f : Found)
     → viewBy s map m x w ≡ got f → viewBy s map m x Read ≡ got f
-unfolding viewBy mapped unmapped inNumberOrder allows
+unfolding viewBy mapped unmapped inNumberOrder allowsWrite allowsFetch
 readable s map m x w f = go (userMode s)
   where
     go : (u : Bool) → pick u (mapped map m) (unmapped m) x w ≡ got f
         → pick u (mapped map m) (unmapped m) x Read ≡ got f
     go true h =
         let e = mapEntry map m (pageOf x) in
-        let t = order-got (ltb (pageOf x) (map .length)) (present e) (undamaged (length m) e) (allows w e) x
-        (foundAt m (inFrame (frameOf e) x)) f h in
-        rw (t .0, t .1, t .2) (ap got (t .4))
+        let t = order-got (ltb (pageOf x) (map .length)) (present e) (undamaged (length m) e) (allowsWrite w e)
+        (allowsFetch w e) x (foundAt m (inFrame (frameOf e) x)) f h in
+        rw (t .0, t .1, t .2) (ap got (t .5))
     go false h = h
 
 -- ---- The word

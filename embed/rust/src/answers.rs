@@ -81,7 +81,8 @@ impl std::error::Error for Refusal {}
 pub enum Event {
     /// A command was carried out.
     Done,
-    /// The kernel was entered, with this cause: 1 a system call, 8 to 15 an alarm, 16 + level an interrupt.
+    /// The kernel was entered, with this cause: 1 a system call, 2 alarm 21, 8 to 15 the alarm of that number, 16 +
+    /// level an interrupt.
     Entered(u32),
     /// The desk has stopped with this number: 0 HALT; 8, 12 to 15 an alarm in kernel mode; 16 no valid entry of the
     /// system block.

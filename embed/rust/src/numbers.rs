@@ -4,7 +4,10 @@
 //! # Alarms
 //!
 //! In user mode each alarm is the cause of a kernel entry (or there is stop 16, where the system block's entry is not
-//! valid). In kernel mode 8 and 12 to 15 are the number of a stop; 9 to 11 do not occur.
+//! valid). In kernel mode 8 and 12 to 15 are the number of a stop; 9 to 11 and 21 do not occur.
+//!
+//! Alarm 21 is the only one whose cause is not its number, and stands here by its cause, [`NO_FETCH`]: 21 is the cause
+//! of an interrupt of level 5.
 //!
 //! # System block
 //!
@@ -17,7 +20,7 @@
 //! 80 bytes: R0 to R15 from 0 on, status at 64, argument at 68, map base at 72, map length in entries at 76. A kernel
 //! entry writes the first 72 bytes. It saves as R15 the address of the next command for a system call and an interrupt,
 //! the command's own for an alarm. The argument is the value of a system call; the level of an interrupt; of alarms 8
-//! to 11 the byte's address, of 12 and 13 the command byte, of 14 the operand's place from 1, of 15 zero.
+//! to 11 and 21 the byte's address, of 12 and 13 the command byte, of 14 the operand's place from 1, of 15 zero.
 //!
 //! The command RESUME leads to user mode: it loads all but the argument from the block at its address, which becomes
 //! the control block. A block that [`Refusal::ControlBlock`] or [`Refusal::Map`] would refuse, or a status with
@@ -26,8 +29,12 @@
 //! # Map
 //!
 //! Used in user mode alone: page p, the addresses from 512 × p to 512 × p + 511, has the word at map base + 4 × p. In
-//! an entry without [`MAP_PRESENT`] the other bits mean nothing. In one with it the six bits between [`MAP_WRITABLE`]
-//! and [`MAP_FRAME`] must be 0, and the frame must lie in memory; otherwise its use is alarm 10.
+//! an entry without [`MAP_PRESENT`] the other bits mean nothing. In one with it the five bits between
+//! [`MAP_NO_FETCH`] and [`MAP_FRAME`] must be 0, and the frame must lie in memory; otherwise its use is alarm 10.
+//!
+//! From a page whose entry has [`MAP_NO_FETCH`] nothing is fetched, neither a command byte nor any of an operand's six
+//! bytes: that is alarm 21, tried after 10. Its bytes are read like others, those of the stack and the words of forms 5
+//! and 6 among them, and written where the entry has [`MAP_WRITABLE`].
 //!
 //! # Load lists
 //!
@@ -57,6 +64,8 @@ pub const MODE: u32 = 13;
 pub const OPERAND: u32 = 14;
 /// Alarm: DIV by zero.
 pub const DIVIDE: u32 = 15;
+/// Cause of alarm 21: a command byte, or a byte of an operand, is fetched where the map's entry has [`MAP_NO_FETCH`].
+pub const NO_FETCH: u32 = 2;
 
 /// Cause: the interrupt of a level from 1 to 15.
 pub const fn interrupt(level: u32) -> u32 {
@@ -104,6 +113,8 @@ pub const CONTROL_MAP_LENGTH: usize = 76;
 pub const MAP_PRESENT: u32 = 0x8000_0000;
 /// Map entry: writable.
 pub const MAP_WRITABLE: u32 = 0x4000_0000;
+/// Map entry: nothing is fetched from the page, neither a command byte nor a byte of an operand.
+pub const MAP_NO_FETCH: u32 = 0x2000_0000;
 /// Map entry: the frame's number f, the 512 bytes from real address 512 × f.
 pub const MAP_FRAME: u32 = 0x00FF_FFFF;
 

@@ -163,6 +163,117 @@ fn arguments_are_as_documented() {
     assert_eq!(entry_of(&[0x58, 1, 0, 0, 0, 0, 0, 2, 0, 0, 0, 0, 0]), (numbers::DIVIDE, 0, 0));
 }
 
+/// A desk in user mode at this address. Page 0 is frame 1, page 1 frame 2, from which nothing is fetched; both can be
+/// written. The code begins at this address too.
+fn beside_data(code: &[u8], at: u32) -> (Desk, Vec<u8>) {
+    let mut shared = memory(&[]);
+    shared.resize(1536, 0);
+    shared[512 + at as usize..][..code.len()].copy_from_slice(code);
+    let mut desk = user(&mut shared);
+    put(&mut shared, 340, numbers::MAP_PRESENT | numbers::MAP_WRITABLE | numbers::MAP_NO_FETCH | 2);
+    desk.set_map(336, 2);
+    desk.set_register(15, at);
+    (desk, shared)
+}
+
+/// The step's event, with the argument and the R15 that a kernel entry has saved.
+fn entered(desk: &mut Desk, shared: &mut [u8]) -> (Event, u32, u32) {
+    let event = desk.step(shared).unwrap();
+    (event, word(shared, 256 + numbers::CONTROL_ARGUMENT), word(shared, 256 + 60))
+}
+
+#[test]
+fn no_command_is_fetched_from_a_page_without_commands() {
+    let alarm = Event::Entered(numbers::NO_FETCH);
+    // A jump to 205h, where CLEAR B R1 stands.
+    let clear = [0x14, 2, 0x10, 0, 0, 0, 0];
+    let (mut desk, mut shared) = beside_data(&[0x70, 0, 0, 0, 0, 2, 5], 0);
+    shared[1024 + 5..1024 + 12].copy_from_slice(&clear);
+    assert_eq!(desk.step(&mut shared), Ok(Event::Done));
+    assert_eq!(desk.register(15), 0x205);
+    assert_eq!(entered(&mut desk, &mut shared), (alarm, 0x205, 0x205));
+    assert_eq!((desk.register(15), desk.status()), (768, numbers::KERNEL));
+    // A command that reaches into the page with its operand, by one byte to six, and one that does not.
+    for at in 0x1FA..0x200 {
+        let (mut desk, mut shared) = beside_data(&clear, at);
+        assert_eq!(entered(&mut desk, &mut shared), (alarm, 0x200, at));
+    }
+    let (mut desk, mut shared) = beside_data(&clear, 0x1F9);
+    assert_eq!(desk.step(&mut shared), Ok(Event::Done));
+    assert_eq!(desk.register(15), 0x200);
+    // The second operand alone lies there: MOVE B with form 8 first, whose step is undone.
+    let (mut desk, mut shared) = beside_data(&[0x10, 8, 0x10, 0, 0, 0, 0, 2, 0, 0, 0, 0, 0], 0x1F9);
+    desk.set_register(1, 0x123);
+    assert_eq!(entered(&mut desk, &mut shared), (alarm, 0x200, 0x1F9));
+    assert_eq!((desk.register(1), word(&shared, 256 + 4)), (0x123, 0x123));
+    // In kernel mode addresses are real: 200h is frame 1.
+    let (mut desk, mut shared) = beside_data(&clear, 0);
+    desk.set_status(numbers::KERNEL);
+    desk.set_register(15, 0x200);
+    assert_eq!(desk.step(&mut shared), Ok(Event::Done));
+}
+
+#[test]
+fn a_page_without_commands_is_read_and_written() {
+    // MOVE W from 200h to R0, and the other way.
+    let (mut desk, mut shared) = beside_data(&[0x12, 0, 0, 0, 0, 2, 0, 2, 0, 0, 0, 0, 0], 0);
+    put(&mut shared, 1024, 0x1234_5678);
+    assert_eq!(desk.step(&mut shared), Ok(Event::Done));
+    assert_eq!(desk.register(0), 0x1234_5678);
+    let (mut desk, mut shared) = beside_data(&[0x12, 2, 0, 0, 0, 0, 0, 0, 0, 0, 0, 2, 0], 0);
+    desk.set_register(0, 0x1234_5678);
+    assert_eq!(desk.step(&mut shared), Ok(Event::Done));
+    assert_eq!(word(&shared, 1024), 0x1234_5678);
+    // MOVE W to R0 by the word at 200h, in forms 5 and 6: 204h, and the word after it.
+    for (form, pair, value) in [(5, 0x10, 7), (6, 0x12, 8)] {
+        let (mut desk, mut shared) = beside_data(&[0x12, form, pair, 0, 0, 2, 0, 2, 0, 0, 0, 0, 0], 0);
+        for (at, value) in [(1024, 0x204), (1028, 7), (1032, 8)] {
+            put(&mut shared, at, value);
+        }
+        desk.set_register(2, 1);
+        assert_eq!(desk.step(&mut shared), Ok(Event::Done));
+        assert_eq!(desk.register(0), value);
+    }
+    // The stack: CALL to 20h and RET from there; PUSHR and POPR.
+    let (mut desk, mut shared) = beside_data(&[0x79, 0, 0, 0, 0, 0, 0x20, 0x01, 0x02], 0);
+    shared[512 + 0x20] = 0x7A;
+    desk.set_register(14, 0x300);
+    for r15 in [0x20, 7, 8, 9] {
+        assert_eq!(desk.step(&mut shared), Ok(Event::Done));
+        assert_eq!(desk.register(15), r15);
+    }
+    assert_eq!(word(&shared, 1024 + 0xFC), 0x2FC);
+    assert_eq!(desk.register(14), 0x300);
+}
+
+#[test]
+fn alarm_21_is_not_the_interrupt_of_level_5() {
+    assert_eq!(numbers::interrupt(5), 21);
+    // HALT at 205h: fetched, it would be alarm 13.
+    let halt = || beside_data(&[0x00], 0x205);
+    let (mut desk, mut shared) = halt();
+    assert_eq!(desk.request(5), Ok(()));
+    assert_eq!(entered(&mut desk, &mut shared), (Event::Entered(21), 5, 0x205));
+    // Of the same level: pending.
+    let (mut desk, mut shared) = halt();
+    desk.set_status(0x50);
+    assert_eq!(desk.request(5), Ok(()));
+    assert_eq!(entered(&mut desk, &mut shared), (Event::Entered(2), 0x205, 0x205));
+    assert_eq!(desk.pending(), 1 << 5);
+    // Each has its own entry of the system block.
+    for (spoiled, interrupt, alarm) in [
+        (2, Event::Entered(21), Event::Stopped(numbers::SYSTEM_ENTRY)),
+        (21, Event::Stopped(numbers::SYSTEM_ENTRY), Event::Entered(2)),
+    ] {
+        for (level, event) in [(Some(5), interrupt), (None, alarm)] {
+            let (mut desk, mut shared) = halt();
+            put(&mut shared, numbers::system_status(spoiled), 0);
+            assert_eq!(level.map_or(Ok(()), |level| desk.request(level)), Ok(()));
+            assert_eq!(desk.step(&mut shared), Ok(event));
+        }
+    }
+}
+
 #[test]
 fn resume_loads_the_control_block() {
     // RESUME of the block at 640.

@@ -21,7 +21,7 @@ fn header(name: &str) -> u64 {
 #[test]
 fn constants_are_the_headers() {
     use numbers::*;
-    let table: [(&str, u64, &str); 31] = [
+    let table: [(&str, u64, &str); 33] = [
         ("SYSTEM_CALL", SYSTEM_CALL.into(), "MIDESK_CAUSE_SYSTEM_CALL"),
         ("ADDRESS", ADDRESS.into(), "MIDESK_ALARM_ADDRESS"),
         ("ABSENT", ABSENT.into(), "MIDESK_ALARM_ABSENT"),
@@ -31,6 +31,7 @@ fn constants_are_the_headers() {
         ("MODE", MODE.into(), "MIDESK_ALARM_MODE"),
         ("OPERAND", OPERAND.into(), "MIDESK_ALARM_OPERAND"),
         ("DIVIDE", DIVIDE.into(), "MIDESK_ALARM_DIVIDE"),
+        ("NO_FETCH", NO_FETCH.into(), "MIDESK_CAUSE_NO_FETCH"),
         ("HALT", HALT.into(), "MIDESK_STOP_HALT"),
         ("SYSTEM_ENTRY", SYSTEM_ENTRY.into(), "MIDESK_STOP_SYSTEM_ENTRY"),
         ("KERNEL", KERNEL.into(), "MIDESK_KERNEL"),
@@ -45,6 +46,7 @@ fn constants_are_the_headers() {
         ("CONTROL_MAP_LENGTH", CONTROL_MAP_LENGTH as u64, "MIDESK_CONTROL_MAP_LENGTH"),
         ("MAP_PRESENT", MAP_PRESENT.into(), "MIDESK_MAP_PRESENT"),
         ("MAP_WRITABLE", MAP_WRITABLE.into(), "MIDESK_MAP_WRITABLE"),
+        ("MAP_NO_FETCH", MAP_NO_FETCH.into(), "MIDESK_MAP_NO_FETCH"),
         ("MAP_FRAME", MAP_FRAME.into(), "MIDESK_MAP_FRAME"),
         ("LIST_END", LIST_END.into(), "MIDESK_LIST_END"),
         ("LIST_MOVE", LIST_MOVE.into(), "MIDESK_LIST_MOVE"),
@@ -56,6 +58,8 @@ fn constants_are_the_headers() {
     ];
     for (name, value, in_header) in table {
         assert_eq!(value, header(in_header), "{name}");
+        // 21 is an alarm's number, but as a cause the interrupt's of level 5: no constant has it.
+        assert_ne!(value, interrupt(5).into(), "{name}");
     }
     // No constant of the module is left out.
     let listed: BTreeSet<&str> = table.iter().map(|row| row.0).filter(|name| *name != "STATE_BYTES").collect();
@@ -160,7 +164,7 @@ fn levels_above_the_own_are_entered() {
 
 #[test]
 fn entries_of_the_map_allow_what_they_say() {
-    use numbers::{ABSENT, MAP_ENTRY, MAP_FRAME, MAP_PRESENT, MAP_WRITABLE, READ_ONLY};
+    use numbers::{ABSENT, MAP_ENTRY, MAP_FRAME, MAP_NO_FETCH, MAP_PRESENT, MAP_WRITABLE, NO_FETCH, READ_ONLY};
     // MOVE B from 205h to R0, and the other way.
     let load = |entry| {
         let (mut desk, mut memory) = user(&[0x10, 0, 0, 0, 0, 2, 5, 2, 0, 0, 0, 0, 0], entry);
@@ -178,6 +182,31 @@ fn entries_of_the_map_allow_what_they_say() {
     assert_eq!(load(MAP_PRESENT | MAP_FRAME), (Event::Entered(MAP_ENTRY), 0));
     assert_eq!(store(MAP_PRESENT | 2), (Event::Entered(READ_ONLY), 0));
     assert_eq!(store(MAP_PRESENT | MAP_WRITABLE | 2), (Event::Done, 0x5A));
+    // The same of a page from which nothing is fetched.
+    assert_eq!(load(MAP_PRESENT | MAP_NO_FETCH | 2), (Event::Done, 0x5A));
+    assert_eq!(store(MAP_PRESENT | MAP_NO_FETCH | 2), (Event::Entered(READ_ONLY), 0));
+    assert_eq!(store(MAP_PRESENT | MAP_NO_FETCH | MAP_WRITABLE | 2), (Event::Done, 0x5A));
+    // CLEAR B R0, whose command byte lies in page 1 or is the last of page 0; the operand lies in page 1.
+    for at in [0x205, 0x1FF] {
+        let fetch = |entry| {
+            let (mut desk, mut memory) = user(&[], entry);
+            memory[512 + at..512 + at + 7].copy_from_slice(&[0x14, 2, 0, 0, 0, 0, 0]);
+            desk.set_register(0, 0x5A);
+            desk.set_register(15, at as u32);
+            (desk.step(&mut memory).unwrap(), desk.register(0))
+        };
+        assert_eq!(fetch(MAP_PRESENT | 2), (Event::Done, 0));
+        assert_eq!(fetch(MAP_PRESENT | MAP_NO_FETCH | 2), (Event::Entered(NO_FETCH), 0x5A));
+        assert_eq!(fetch(MAP_PRESENT | MAP_NO_FETCH | MAP_WRITABLE | 2), (Event::Entered(NO_FETCH), 0x5A));
+        assert_eq!(fetch(!MAP_PRESENT), (Event::Entered(ABSENT), 0x5A));
+        // Each of the five bits below, and a frame past the memory, go before.
+        for other in (24..29).map(|i| 1 << i | 2).chain([4]) {
+            for entry in [MAP_PRESENT | other, MAP_PRESENT | MAP_NO_FETCH | other] {
+                assert_eq!(load(entry), (Event::Entered(MAP_ENTRY), 0));
+                assert_eq!(fetch(entry), (Event::Entered(MAP_ENTRY), 0x5A));
+            }
+        }
+    }
 }
 
 #[test]

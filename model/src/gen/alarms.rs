@@ -8,16 +8,17 @@ use super::{family_rng, known_bytes};
 use crate::asm;
 use crate::case::{Call, Case};
 use crate::code::{decode, Command, Op, Role};
+use crate::entry::cause_of;
 use crate::state::*;
 use crate::work::Part;
 
-/// The parts of a command where 8 to 11 can come, and the numbers there.
+/// The parts of a command where 8 to 11, 15 and 21 can come, and the numbers there.
 fn parts(known: &Command) -> Vec<(Part, u32)> {
     let mut list = Vec::new();
     let mut add = |part, numbers: &[u32]| list.extend(numbers.iter().map(|number| (part, *number)));
     for (i, (role, _)) in known.operands.iter().enumerate() {
         let place = i as u32 + 1;
-        add(Part::Fetch(place), &[8, 9, 10]);
+        add(Part::Fetch(place), &[8, 9, 10, 21]);
         add(Part::Indirect(place), &[8, 9, 10]);
         match role {
             Role::Value => add(Part::Value(place), &[8, 9, 10]),
@@ -92,7 +93,7 @@ pub fn failing_command(desk: &mut Layout, byte: u8, part: Part, number: u32) -> 
 fn after_alarm(desk: &mut Layout, code: &[u8], own: u32) {
     let block = desk.maker.state.control_block;
     let argument = desk.maker.word(block + 68);
-    let number = match desk.maker.last.map(|outcome| outcome.event) {
+    let cause = match desk.maker.last.map(|outcome| outcome.event) {
         Some(Event::Entry { cause, .. }) => cause,
         _ => return,
     };
@@ -100,8 +101,8 @@ fn after_alarm(desk: &mut Layout, code: &[u8], own: u32) {
     let named = desk.maker.state.map_length;
     if desk.maker.rng.chance(45) {
         let frame = desk.first_frame + desk.maker.rng.below(desk.frames - desk.first_frame);
-        let repair = match number {
-            9..=11 => {
+        let repair = match cause {
+            2 | 9..=11 => {
                 let to = desk.maker.point_at(desk.maker.state.map_base + 4 * page);
                 asm::command(0x12, &[asm::immediate(0xC000_0000 | frame), to])
             }
@@ -125,7 +126,7 @@ fn after_alarm(desk: &mut Layout, code: &[u8], own: u32) {
     }
 }
 
-/// Alarms 8 to 11 and 15 in user mode.
+/// Alarms 8 to 11, 15 and 21 in user mode.
 pub fn alarms() -> Vec<Case> {
     let mut rng = family_rng("alarms");
     let mut items = Vec::new();
@@ -136,7 +137,8 @@ pub fn alarms() -> Vec<Case> {
             continue;
         }
         let list = parts(&known);
-        // All parts for one width of each command, for the others each number.
+        // All parts for one width of each command, for the others each number but 21, which
+        // `fetches.rs` has for all of them.
         let this = (known.op, known.operands.len());
         if family != Some(this) {
             items.extend(list.iter().map(|(part, number)| (byte, *part, *number)));
@@ -160,7 +162,7 @@ pub fn alarms() -> Vec<Case> {
             desk.maker.code(&code);
             let own = desk.maker.state.registers[PC];
             let outcome = desk.maker.step();
-            if !matches!(outcome.event, Event::Entry { cause, .. } if cause == number) {
+            if !matches!(outcome.event, Event::Entry { cause, .. } if cause == cause_of(number)) {
                 continue;
             }
             after_alarm(&mut desk, &code, own);
@@ -169,7 +171,7 @@ pub fn alarms() -> Vec<Case> {
         }
     }
     // The command byte itself can't be fetched.
-    for number in [8, 9, 10] {
+    for number in [8, 9, 10, 21] {
         for _ in 0..4 {
             let mut desk = trap_desk(&mut rng);
             let mut state = desk.maker.state;

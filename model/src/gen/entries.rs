@@ -5,6 +5,7 @@ use super::grid::good_desk;
 use super::layout::Layout;
 use crate::asm;
 use crate::case::{Call, Case};
+use crate::map::Reason;
 use crate::state::*;
 
 /// A simple command for either mode.
@@ -139,7 +140,7 @@ pub fn status_bits() -> Vec<Case> {
             let base = desk.maker.state.map_base + offset;
             desk.maker.lay_word(block + 72, base);
         } else {
-            block = desk.free_address(96, true) / 4 * 4 + offset;
+            block = desk.free_address(96, Reason::Write) / 4 * 4 + offset;
             for i in 0..20 {
                 desk.maker.lay_word(block + 4 * i, 0);
             }

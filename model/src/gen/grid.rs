@@ -1,7 +1,7 @@
 //! Every command, form and width in both modes; every flag outcome.
 
-use super::layout::{layout, value, Kind, Layout};
-use super::pick::forms_of;
+use super::layout::{layout, value, Kind, Layout, DATA_KINDS};
+use super::pick::{forms_of, reason_of};
 use super::{family_rng, known_bytes, shuffle};
 use crate::arith;
 use crate::asm;
@@ -10,11 +10,13 @@ use crate::code::{decode, Command, Op, Role};
 use crate::rng::Rng;
 use crate::state::*;
 
-/// A desk whose pages are all good, some of them read-only, in either mode.
+/// A desk whose pages are all good, some of them read-only or without commands, in either mode.
 pub fn good_desk(rng: &mut Rng, kernel: bool) -> Layout {
-    let mut kinds = vec![Kind::Writable; 3 + rng.below(3) as usize];
-    let last = kinds.len() - 1;
-    kinds[last] = Kind::ReadOnly;
+    let mut kinds = vec![Kind::Writable; 2 + rng.below(3) as usize];
+    if rng.chance(50) {
+        kinds.push(rng.pick(&DATA_KINDS));
+    }
+    kinds.push(Kind::ReadOnly);
     let mut desk = layout(Rng::new(rng.next()), &kinds, true);
     if kernel {
         let mut state = desk.maker.state;
@@ -122,41 +124,51 @@ pub fn flags() -> Vec<Case> {
             Op::Halt | Op::Pushr | Op::Popr | Op::SystemCall | Op::Resume | Op::Jump(_) | Op::Call | Op::Ret
         );
         if sets {
-            for (_, first, second) in outcomes(&known, &mut rng) {
-                items.push((byte, first, second));
-                items.push((byte, first, second));
+            for (flags, first, second) in outcomes(&known, &mut rng) {
+                items.push((byte, flags, first, second));
+                items.push((byte, flags, first, second));
             }
         }
     }
     shuffle(&mut rng, &mut items);
     let mut cases = Vec::new();
-    for batch in items.chunks(10) {
+    while !items.is_empty() {
         let kernel = rng.chance(50);
         let mut desk = good_desk(&mut rng, kernel);
-        for (byte, first, second) in batch {
-            if !desk.maker.free_here() || desk.maker.state.kernel() != kernel {
+        let mut rest = items.clone();
+        for _ in 0..10 {
+            let Some((byte, flags, first, second)) = rest.pop() else { break };
+            if !desk.maker.free_here() {
+                rest.push((byte, flags, first, second));
                 break;
             }
-            let known = decode(*byte).unwrap();
+            let known = decode(byte).unwrap();
             let mut operands = Vec::new();
             for (place, (role, size)) in known.operands.iter().enumerate() {
-                let value = if place == 0 { *first } else { *second };
+                let value = if place == 0 { first } else { second };
                 operands.push(match role {
                     Role::Value if desk.maker.rng.chance(60) => asm::immediate(value),
                     Role::Address => asm::absolute(value),
                     Role::Destination if desk.maker.rng.chance(50) => asm::register(desk.maker.rng.below(14) as u8),
                     _ => {
-                        let at = desk.free_address(*size, *role != Role::Value);
+                        let at = desk.free_address(*size, reason_of(*role));
                         desk.lay_at(at, &value.to_be_bytes()[4 - *size as usize..]);
                         asm::absolute(at)
                     }
                 });
             }
-            let code = asm::command(*byte, &operands);
+            let code = asm::command(byte, &operands);
             desk.maker.code(&code);
-            desk.maker.step();
+            // Operands that overlap give other flags.
+            if desk.maker.step().event != Event::Plain || desk.maker.state.status & FLAGS != flags {
+                rest.push((byte, flags, first, second));
+                break;
+            }
         }
-        cases.push(desk.maker.finish());
+        if let Some(case) = desk.maker.finish_true() {
+            cases.push(case);
+            items = rest;
+        }
     }
     cases
 }

@@ -1,6 +1,7 @@
 //! Layouts of memory, blocks and map.
 
 use super::maker::Maker;
+use crate::map::{Reason, DATA};
 use crate::rng::Rng;
 use crate::state::*;
 
@@ -9,9 +10,25 @@ use crate::state::*;
 pub enum Kind {
     Writable,
     ReadOnly,
+    /// Without commands, and writable.
+    WritableData,
+    /// Without commands, and not writable.
+    ReadOnlyData,
     Absent,
     Forbidden,
     Past,
+}
+
+/// The kinds of pages without commands.
+pub const DATA_KINDS: [Kind; 2] = [Kind::WritableData, Kind::ReadOnlyData];
+
+/// The kinds of pages that can be used for a reason.
+pub fn kinds_for(reason: Reason) -> &'static [Kind] {
+    match reason {
+        Reason::Fetch => &[Kind::Writable, Kind::ReadOnly],
+        Reason::Read => &[Kind::Writable, Kind::ReadOnly, Kind::WritableData, Kind::ReadOnlyData],
+        Reason::Write => &[Kind::Writable, Kind::WritableData],
+    }
 }
 
 pub struct Layout {
@@ -25,12 +42,16 @@ pub struct Layout {
 /// An entry of a kind; `frame` is used where it names one.
 pub fn entry_of(rng: &mut Rng, kind: Kind, frame: u32, frames: u32) -> u32 {
     let junk = if rng.chance(50) { rng.word() } else { 0 };
+    // The writable bit and the one of pages without commands, both or one or none.
+    let bits = rng.word() & 0x6000_0000;
     match kind {
         Kind::Writable => 0xC000_0000 | frame,
         Kind::ReadOnly => 0x8000_0000 | frame,
-        Kind::Absent if rng.chance(30) => 0x4000_0000 | frame,
+        Kind::WritableData => 0xC000_0000 | DATA | frame,
+        Kind::ReadOnlyData => 0x8000_0000 | DATA | frame,
+        Kind::Absent if rng.chance(40) => bits | frame,
         Kind::Absent => junk & 0x7FFF_FFFF,
-        Kind::Forbidden => 0x8000_0000 | junk & 0x4000_0000 | 1 << (24 + rng.below(6)) | frame,
+        Kind::Forbidden => 0x8000_0000 | bits | 1 << (24 + rng.below(5)) | frame,
         Kind::Past => {
             let past = match rng.below(5) {
                 0 | 1 => frames,
@@ -38,7 +59,7 @@ pub fn entry_of(rng: &mut Rng, kind: Kind, frame: u32, frames: u32) -> u32 {
                 3 => 0x0001_0000 | frame,
                 _ => frames.max(rng.word() & 0x00FF_FFFF),
             };
-            0x8000_0000 | junk & 0x4000_0000 | past
+            0x8000_0000 | bits | past
         }
     }
 }
@@ -91,7 +112,8 @@ pub fn layout(mut rng: Rng, kinds: &[Kind], shared: bool) -> Layout {
     // Two more entries past the map's end, which a longer map would use.
     for page in named..named + 2 {
         let frame = first_frame + page % user_frames;
-        maker.lay_word(map_base + 4 * page, 0xC000_0000 | frame);
+        let data = maker.rng.pick(&[0, 0, DATA]);
+        maker.lay_word(map_base + 4 * page, 0xC000_0000 | data | frame);
     }
     maker.lay_word(control_block + 72, map_base);
     maker.lay_word(control_block + 76, named);
@@ -114,21 +136,20 @@ impl Layout {
         for i in 0..15 {
             state.registers[i] = match i {
                 0..=3 => self.maker.rng.below(12),
-                4..=9 | 14 => self.address(self.maker.state.kernel(), 4, true),
+                4..=9 | 14 => self.address(self.maker.state.kernel(), 4, Reason::Write),
                 _ => value(&mut self.maker.rng, 4),
             };
         }
         self.maker.begin(state);
     }
 
-    /// An address whose `size` bytes can be used, by the kind of its page.
-    pub fn address(&mut self, kernel: bool, size: u32, write: bool) -> u32 {
+    /// An address whose `size` bytes can be used for a reason, by the kind of its page.
+    pub fn address(&mut self, kernel: bool, size: u32, reason: Reason) -> u32 {
         if kernel {
             let low = self.first_frame * FRAME_BYTES;
             return low + self.maker.rng.below(self.maker.length() - low - size + 1);
         }
-        let wanted = if write { &[Kind::Writable][..] } else { &[Kind::Writable, Kind::ReadOnly][..] };
-        let pages = self.pages(wanted);
+        let pages = self.pages(kinds_for(reason));
         if pages.is_empty() {
             return self.maker.rng.below(4096);
         }

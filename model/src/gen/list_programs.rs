@@ -80,11 +80,12 @@ pub fn programs() -> Vec<Case> {
     cases
 }
 
-/// What a kernel and a user program of two pages need in memory, and the program's commands, which go to 2048: it stores
-/// a value and calls the system, which halts.
+/// What a kernel and a user program of two pages need in memory, the second one without commands,
+/// and the program's commands, which go to 2048: it stores a value, reads one from the second page
+/// and calls the system, which halts.
 pub fn user_parts(rng: &mut Rng) -> (Parts, Vec<u8>) {
     let entries: Vec<u8> = (0..32).flat_map(|i| [0x600 + 8 * i, KERNEL]).flat_map(u32::to_be_bytes).collect();
-    let map: Vec<u8> = [0xC000_0004u32, 0x8000_0005].into_iter().flat_map(u32::to_be_bytes).collect();
+    let map: Vec<u8> = [0xC000_0004u32, 0xA000_0005].into_iter().flat_map(u32::to_be_bytes).collect();
     let mut block = vec![0; 80];
     block[72..].copy_from_slice(&[384u32.to_be_bytes(), 2u32.to_be_bytes()].concat());
     let user = [

@@ -2,9 +2,9 @@
 //! the desk is about to run and operands can use what registers hold.
 
 use crate::asm::*;
-use crate::case::{make, Call, Case, Outcome, Ramp};
+use crate::case::{make, play, Call, Case, Outcome, Ramp};
 use crate::entry;
-use crate::map::{lookup, word, Access, Real, Virtual};
+use crate::map::{lookup, word, Real, Reason, Virtual};
 use crate::operand::Fields;
 use crate::rng::Rng;
 use crate::state::*;
@@ -21,6 +21,8 @@ pub struct Maker {
     start: State,
     pub state: State,
     calls: Vec<Call>,
+    /// What came out of the calls that were made here.
+    outcomes: Vec<Outcome>,
     /// Where the next piece of kernel code goes.
     pub kernel_next: u32,
     /// Causes whose entries are laid.
@@ -41,6 +43,7 @@ impl Maker {
             start: State::zero(0),
             state: State::zero(0),
             calls: Vec::new(),
+            outcomes: Vec::new(),
             kernel_next: 0,
             decided: 0,
             bad_entries: 0,
@@ -88,6 +91,7 @@ impl Maker {
         let outcome = make(&call, &self.state, &mut self.memory);
         self.state = outcome.state;
         self.calls.push(call);
+        self.outcomes.push(outcome);
         self.last = Some(outcome);
         outcome
     }
@@ -120,13 +124,26 @@ impl Maker {
         Case { ramps: self.ramps, image: self.image, start: self.start, calls: self.calls }
     }
 
+    /// The case, if its calls give again what they gave here: what was laid last may have changed
+    /// what the first ones used.
+    pub fn finish_true(self) -> Option<Case> {
+        let outcomes = self.outcomes.clone();
+        let case = self.finish();
+        (play(&case).outcomes == outcomes).then_some(case)
+    }
+
     pub fn calls(&self) -> usize {
         self.calls.len()
     }
 
     /// The real place of a byte that may be read now.
     pub fn real(&self, address: u32) -> Option<u32> {
-        let found = lookup(&self.state, &self.memory, Virtual(address), Access::Read);
+        self.real_for(Reason::Read, address)
+    }
+
+    /// The real place of a byte that may be used for a reason now.
+    pub fn real_for(&self, reason: Reason, address: u32) -> Option<u32> {
+        let found = lookup(&self.state, &self.memory, Virtual(address), reason);
         found.ok().map(|real| real.0)
     }
 
@@ -151,7 +168,7 @@ impl Maker {
 
     /// Whether R15 leads to a byte without laid code that can be fetched.
     pub fn free_here(&self) -> bool {
-        match self.real(self.state.registers[PC]) {
+        match self.real_for(Reason::Fetch, self.state.registers[PC]) {
             Some(real) => !self.owned(real),
             None => false,
         }

@@ -3,7 +3,9 @@
 pub mod alarms;
 pub mod any_list;
 pub mod any_pair;
+pub mod data_pages;
 pub mod entries;
+pub mod fetches;
 pub mod grid;
 pub mod layout;
 pub mod list_programs;
@@ -51,6 +53,11 @@ pub fn shuffle<T>(rng: &mut Rng, list: &mut [T]) {
     }
 }
 
+/// Tries until a case comes out as it is meant; what one command needs may spoil another.
+pub fn until(mut make: impl FnMut() -> Option<Case>) -> Case {
+    (0..100).find_map(|_| make()).expect("a case in a hundred tries")
+}
+
 /// All cases, by family.
 pub fn all() -> Vec<(&'static str, Vec<Case>)> {
     vec![
@@ -85,5 +92,7 @@ pub fn all() -> Vec<(&'static str, Vec<Case>)> {
         ("both orders", pair_refusals::orders()),
         ("both programs", pair_programs::programs()),
         ("both mixed", pairs::mixed()),
+        ("fetches", fetches::fetches()),
+        ("data pages", data_pages::data_pages()),
     ]
 }

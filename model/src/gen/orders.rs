@@ -82,7 +82,7 @@ pub fn orders() -> Vec<Case> {
         let total = 6 * known.operands.len() as u32;
         // The code may be cut by a page that can't be fetched.
         if !kernel && desk.maker.rng.chance(35) {
-            let number = 8 + desk.maker.rng.below(3);
+            let number = desk.maker.rng.pick(&[8, 9, 10, 21]);
             let inside = 1 + desk.maker.rng.below(total);
             state.registers[PC] = (desk.failing_page(number) * FRAME_BYTES).wrapping_sub(inside);
         }

@@ -1,8 +1,10 @@
 //! Picks operands and commands that can run in a layout.
 
-use super::layout::{value, Layout};
+use super::layout::{value, Layout, DATA_KINDS};
+use crate::arith;
 use crate::asm;
 use crate::code::{decode, Op, Role};
+use crate::map::Reason;
 use crate::operand::Fields;
 use crate::state::*;
 
@@ -15,6 +17,14 @@ pub fn forms_of(role: Role) -> &'static [u8] {
     }
 }
 
+/// Why a command uses the bytes of an operand in a role.
+pub fn reason_of(role: Role) -> Reason {
+    match role {
+        Role::Value | Role::Address => Reason::Read,
+        Role::Destination | Role::Both => Reason::Write,
+    }
+}
+
 /// Registers as an operand sees them, with the steps of earlier operands.
 pub type Seen = [u32; 16];
 
@@ -23,19 +33,24 @@ impl Layout {
         self.maker.state.kernel()
     }
 
-    /// Whether none of the bytes holds laid code and all can be looked up.
+    /// Whether none of the bytes holds laid code and all can be read.
     pub fn plain(&self, address: u32, size: u32) -> bool {
-        (0..size).all(|i| match self.maker.real(address.wrapping_add(i)) {
+        self.plain_for(Reason::Read, address, size)
+    }
+
+    /// Whether none of the bytes holds laid code and all can be used for a reason.
+    pub fn plain_for(&self, reason: Reason, address: u32, size: u32) -> bool {
+        (0..size).all(|i| match self.maker.real_for(reason, address.wrapping_add(i)) {
             Some(real) => !self.maker.owned(real),
             None => false,
         })
     }
 
     /// An address for `size` bytes, if possible without laid code.
-    pub fn free_address(&mut self, size: u32, write: bool) -> u32 {
+    pub fn free_address(&mut self, size: u32, reason: Reason) -> u32 {
         let mut address = 0;
         for _ in 0..12 {
-            address = self.address(self.kernel(), size, write);
+            address = self.address(self.kernel(), size, reason);
             if self.plain(address, size) {
                 break;
             }
@@ -47,8 +62,8 @@ impl Layout {
     pub fn code_target(&mut self) -> u32 {
         let mut address = 0;
         for _ in 0..20 {
-            address = self.address(self.kernel(), 1, false);
-            if self.plain(address, 24) {
+            address = self.address(self.kernel(), 1, Reason::Fetch);
+            if self.plain_for(Reason::Fetch, address, 24) {
                 break;
             }
         }
@@ -67,15 +82,12 @@ impl Layout {
     }
 
     /// A register whose value, moved by `difference`, is a usable address.
-    fn stepping(&mut self, seen: &Seen, size: u32, write: bool, down: bool) -> u8 {
+    fn stepping(&mut self, seen: &Seen, size: u32, reason: Reason, down: bool) -> u8 {
         let first = self.maker.rng.below(15);
         for i in 0..15 {
             let x = (first + i) % 15;
             let at = if down { seen[x as usize].wrapping_sub(size) } else { seen[x as usize] };
-            let good = self.plain(at, size);
-            let page = at / FRAME_BYTES;
-            let kind = self.kinds.get(page as usize);
-            if good && (!write || self.kernel() || kind == Some(&super::layout::Kind::Writable)) {
+            if self.plain_for(reason, at, size) {
                 return x as u8;
             }
         }
@@ -90,7 +102,7 @@ impl Layout {
             3 => asm::relative(target.wrapping_sub(base), x),
             4 => asm::indexed(target.wrapping_sub(base).wrapping_sub(index), x, y),
             _ => {
-                let at = self.free_address(4, false);
+                let at = self.free_address(4, Reason::Read);
                 let word = if form == 5 { target } else { target.wrapping_sub(index) };
                 self.lay_at(at, &word.to_be_bytes());
                 let z = at.wrapping_sub(base);
@@ -105,14 +117,14 @@ impl Layout {
 
     /// Fields of an operand in a given form. `seen[15]` is the address after it.
     pub fn operand(&mut self, seen: &mut Seen, op: Op, role: Role, size: u32, form: u8) -> Fields {
-        let write = role == Role::Destination || role == Role::Both;
+        let reason = reason_of(role);
         let jumps = matches!(op, Op::Jump(_) | Op::Call);
         let target = if jumps {
             self.code_target()
         } else if role == Role::Address && self.maker.rng.chance(50) {
             self.maker.rng.word()
         } else {
-            self.free_address(size, write)
+            self.free_address(size, reason)
         };
         let mut x = self.maker.rng.below(15) as u8;
         if self.maker.rng.chance(10) {
@@ -137,19 +149,19 @@ impl Layout {
                 asm::immediate(chosen)
             }
             2 => {
-                if write && x == 15 && self.maker.rng.chance(60) {
+                if reason == Reason::Write && x == 15 && self.maker.rng.chance(60) {
                     x = 10;
                 }
                 asm::register(x)
             }
             0 | 3..=6 => self.addressed(seen, target, form, (x, y), index),
             7 => {
-                let x = self.stepping(seen, size, write, true);
+                let x = self.stepping(seen, size, reason, true);
                 seen[x as usize] = seen[x as usize].wrapping_sub(size);
                 asm::lowered(x)
             }
             _ => {
-                let x = self.stepping(seen, size, write, false);
+                let x = self.stepping(seen, size, reason, false);
                 seen[x as usize] = seen[x as usize].wrapping_add(size);
                 asm::raised(x)
             }
@@ -177,6 +189,52 @@ impl Layout {
         asm::command(byte, &operands)
     }
 
+    /// An address in a page without commands, or so little before it that the page cuts a command
+    /// there; `None` without such a page.
+    pub fn data_address(&mut self) -> Option<u32> {
+        let pages = self.pages(&DATA_KINDS);
+        if pages.is_empty() {
+            return None;
+        }
+        let start = self.maker.rng.pick(&pages) * FRAME_BYTES;
+        if self.maker.rng.chance(40) {
+            return Some(start.wrapping_sub(1 + self.maker.rng.below(18)));
+        }
+        Some(start + self.maker.rng.below(FRAME_BYTES))
+    }
+
+    /// A command at R15 that goes on at an address: a jump that is taken or CALL, RET, which gets
+    /// the address on its stack, or, for another byte, MOVE W to R15.
+    pub fn leading(&mut self, byte: u8, target: u32) -> Vec<u8> {
+        let mut seen = self.maker.state.registers;
+        match byte {
+            0x70..=0x79 => {
+                seen[PC] = seen[PC].wrapping_add(7);
+                let form = self.maker.rng.pick(&[0, 3, 4, 5, 6]);
+                let (x, y) = (self.maker.rng.below(14) as u8, self.maker.rng.below(14) as u8);
+                let index = seen[y as usize].wrapping_mul(4);
+                let operand = self.addressed(&seen, target, form, (x, y), index);
+                asm::command(byte, &[operand])
+            }
+            0x7A => {
+                self.lay_at(seen[SP], &target.to_be_bytes());
+                vec![byte]
+            }
+            _ => asm::command(0x12, &[asm::immediate(target), asm::register(15)]),
+        }
+    }
+
+    /// A command at R15 that goes on at an address, whichever of them can run here.
+    pub fn any_leading(&mut self, target: u32) -> Vec<u8> {
+        let byte = self.maker.rng.pick(&[0x70, 0x70, 0x71, 0x72, 0x73, 0x74, 0x75, 0x76, 0x77, 0x78, 0x79, 0x7A, 0x12]);
+        let good = match byte {
+            0x70..=0x78 => arith::taken(byte, self.maker.state.status),
+            0x7A => self.plain(self.maker.state.registers[SP], 4),
+            _ => true,
+        };
+        self.leading(if good { byte } else { 0x70 }, target)
+    }
+
     /// Lays what RET and POPR are to find on the stack.
     fn stack_ready(&mut self, op: Op, seen: &Seen) {
         let sp = seen[SP];
@@ -189,7 +247,7 @@ impl Layout {
         if op == Op::Popr && self.plain(sp, 60) && self.maker.rng.chance(70) {
             for i in 0..15 {
                 let word = match i {
-                    4..=9 | 14 => self.address(self.kernel(), 4, true),
+                    4..=9 | 14 => self.address(self.kernel(), 4, Reason::Write),
                     _ => self.maker.rng.below(12),
                 };
                 self.lay_at(sp + 4 * i, &word.to_be_bytes());
@@ -202,7 +260,7 @@ impl Layout {
         let mut state = self.maker.state;
         state.registers[PC] = self.code_target();
         for _ in 0..20 {
-            state.registers[SP] = self.address(state.kernel(), 4, true);
+            state.registers[SP] = self.address(state.kernel(), 4, Reason::Write);
             if self.plain(state.registers[SP].wrapping_sub(60), 120) {
                 break;
             }

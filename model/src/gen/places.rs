@@ -6,6 +6,7 @@ use super::maker::Maker;
 use super::traps::trap_desk;
 use crate::asm::{self, command};
 use crate::case::{Call, Case};
+use crate::map::DATA;
 use crate::rng::Rng;
 use crate::state::*;
 
@@ -23,10 +24,11 @@ pub fn own_map(rng: &mut Rng, cases: &mut Vec<Case>) {
         desk.maker.lay_word(base + 4 * page, 0xC000_0000 | which / FRAME_BYTES);
         let back = desk.maker.rng.below(4);
         let at = (page * FRAME_BYTES + which % FRAME_BYTES).wrapping_sub(back);
-        let word = match desk.maker.rng.below(4) {
+        let word = match desk.maker.rng.below(5) {
             0 => 0,
             1 => 0x8000_0000 | desk.first_frame,
             2 => 0x00C0_0000,
+            3 => 0xC000_0000 | DATA | desk.first_frame,
             _ => desk.maker.rng.word(),
         };
         let size = desk.maker.rng.below(3) as u8;
@@ -54,10 +56,10 @@ pub fn own_map(rng: &mut Rng, cases: &mut Vec<Case>) {
 
 /// System and control block that overlap each other or the running code.
 pub fn overlaps(rng: &mut Rng, cases: &mut Vec<Case>) {
-    for round in 0..30u32 {
-        let mut desk = good_desk(rng, false);
+    for round in 0..35u32 {
+        let mut desk = if round % 7 == 6 { trap_desk(rng) } else { good_desk(rng, false) };
         let mut state = desk.maker.state;
-        let cause = [1, 12, 14, 15, 20, 31][round as usize % 6];
+        let cause = [1, 12, 14, 15, 20, 31, 2][round as usize % 7];
         let entry = state.system_block + 8 * cause;
         // The entry's bytes lie somewhere in the 80 bytes.
         let shift = 4 * desk.maker.rng.below(19);
@@ -65,6 +67,9 @@ pub fn overlaps(rng: &mut Rng, cases: &mut Vec<Case>) {
         if cause > 16 {
             state.pending = 1 << (cause - 16);
             state.status &= FLAGS;
+        }
+        if cause == 2 {
+            state.registers[PC] = desk.failing(1, 21);
         }
         desk.maker.begin(state);
         let code = match cause {
@@ -137,7 +142,7 @@ pub fn large(rng: &mut Rng, cases: &mut Vec<Case>) {
         let (map_base, map_length) = (1024, 200);
         maker.lay_word(map_base, 0xC000_0000 | (frames - 1));
         maker.lay_word(map_base + 4, 0xC000_0000 | frames);
-        maker.lay_word(map_base + 4 * 199, 0x8000_0000 | (frames - 2));
+        maker.lay_word(map_base + 4 * 199, 0x8000_0000 | DATA | (frames - 2));
         maker.lay_word(8 * 10, 2048);
         maker.lay_word(8 * 10 + 4, KERNEL | 0x35);
         let user = [

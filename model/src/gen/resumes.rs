@@ -6,6 +6,7 @@ use super::grid::good_desk;
 use super::layout::{value, Layout};
 use crate::asm;
 use crate::case::{Call, Case};
+use crate::map::Reason;
 use crate::operand::Fields;
 use crate::rng::Rng;
 use crate::state::*;
@@ -31,7 +32,7 @@ fn spoil(rng: &mut Rng, block: &mut Block, flaw: u32, length: u32) {
         5 => block.at = 0xFFFF_FFFC - 4 * rng.below(30),
         6 => block.at = rng.word() & !3 | 0x0100_0000,
         7 => block.map_base += 1 + rng.below(3),
-        8 => block.map_length = (length - block.map_base) / 4 + 1,
+        8 => block.map_length = length.saturating_sub(block.map_base) / 4 + 1,
         9 => (block.map_base, block.map_length) = (length + 4, 0),
         10 => block.map_length = 0x4000_0000,
         11 => (block.map_base, block.map_length) = (0xFFFF_FFFC, 1),
@@ -42,7 +43,7 @@ fn spoil(rng: &mut Rng, block: &mut Block, flaw: u32, length: u32) {
         16 => (block.map_base, block.map_length) = (0xFFFF_FF00, 0x40 + rng.below(16)),
         // Good ones at the limits.
         17 => block.at = length - 80,
-        18 => block.map_length = (length - block.map_base) / 4,
+        18 => block.map_length = length.saturating_sub(block.map_base) / 4,
         19 => (block.map_base, block.map_length) = (length, 0),
         20 => block.status |= LEVEL | FLAGS,
         _ => block.map_length = 0,
@@ -56,7 +57,7 @@ pub fn resumes() -> Vec<Case> {
         let mut desk = good_desk(&mut rng, true);
         let length = desk.maker.length();
         let mut block = Block {
-            at: desk.free_address(80, true) / 4 * 4,
+            at: desk.free_address(80, Reason::Write) / 4 * 4,
             status: desk.maker.rng.word() & (LEVEL | FLAGS),
             map_base: desk.maker.state.map_base,
             map_length: desk.maker.state.map_length,
@@ -119,12 +120,12 @@ fn resume_operand(desk: &mut Layout, round: u32, at: u32) -> Fields {
         2 => asm::indexed(at.wrapping_sub(desk.maker.state.registers[2] * 4), 0, 2)
             .with_x_of(desk.maker.state.registers[0]),
         3 => {
-            let place = desk.free_address(4, true);
+            let place = desk.free_address(4, Reason::Write);
             desk.lay_at(place, &at.to_be_bytes());
             asm::indirect(place.wrapping_sub(desk.maker.state.registers[1]), 1)
         }
         4 => {
-            let place = desk.free_address(4, true);
+            let place = desk.free_address(4, Reason::Write);
             let word = at.wrapping_sub(desk.maker.state.registers[3] * 4);
             desk.lay_at(place, &word.to_be_bytes());
             asm::indirect_indexed(place.wrapping_sub(desk.maker.state.registers[1]), 1, 3)

@@ -3,7 +3,7 @@
 use super::grid::good_desk;
 use super::layout::Layout;
 use super::traps::RULES;
-use super::{family_rng, known_bytes, shuffle, unknown_bytes};
+use super::{family_rng, known_bytes, shuffle, unknown_bytes, until};
 use crate::asm;
 use crate::case::{Call, Case};
 use crate::code::{decode, Role};
@@ -72,7 +72,7 @@ pub fn rules() -> Vec<Case> {
         for list in &mut by_length {
             shuffle(&mut rng, list);
             for batch in list.chunks(7) {
-                cases.push(rules_case(&mut rng, kernel, batch));
+                cases.push(until(|| rules_case(&mut rng, kernel, batch)));
             }
         }
     }
@@ -94,7 +94,8 @@ fn broken_command(desk: &mut Layout, byte: u8, place: usize, rule: u32) -> Optio
     Some(asm::command(byte, &operands))
 }
 
-fn rules_case(rng: &mut Rng, kernel: bool, batch: &[(u8, usize, u32)]) -> Case {
+/// Commands that break these rules, or `None` where one didn't come to that.
+fn rules_case(rng: &mut Rng, kernel: bool, batch: &[(u8, usize, u32)]) -> Option<Case> {
     let mut desk = good_desk(rng, kernel);
     for (byte, place, rule) in batch {
         let Some(code) = broken_command(&mut desk, *byte, *place, *rule) else { continue };
@@ -105,16 +106,18 @@ fn rules_case(rng: &mut Rng, kernel: bool, batch: &[(u8, usize, u32)]) -> Case {
                 desk.maker.call(Call::Fresh { system, control, start });
             }
             desk.maker.code(&code);
-            desk.maker.call(Call::Step);
+            if desk.maker.call(Call::Step).event != Event::Stop(14) {
+                return None;
+            }
             continue;
         }
         desk.maker.code(&code);
-        desk.maker.step();
-        if desk.maker.state.kernel() {
-            skip(&mut desk, code.len() as u32);
+        if !matches!(desk.maker.step().event, Event::Entry { cause: 14, .. }) {
+            return None;
         }
+        skip(&mut desk, code.len() as u32);
     }
-    desk.maker.finish()
+    desk.maker.finish_true()
 }
 
 /// The handler that skips a command of a length; laid once, run each time.

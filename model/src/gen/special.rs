@@ -65,19 +65,31 @@ fn tried(rng: &mut Rng, cases: &mut Vec<Case>) {
 fn jumps(rng: &mut Rng, cases: &mut Vec<Case>) {
     for flags in 0..16 {
         for kernel in [false, true] {
-            let mut desk = good_desk(rng, kernel);
-            let mut state = desk.maker.state;
-            state.status = state.status & !FLAGS | flags;
-            desk.maker.begin(state);
-            for byte in 0x70..=0x79u8 {
-                if !desk.maker.free_here() || desk.maker.state.kernel() != kernel {
-                    break;
+            let mut left: Vec<u8> = (0x70..=0x79).rev().collect();
+            while !left.is_empty() {
+                let mut desk = good_desk(rng, kernel);
+                let mut state = desk.maker.state;
+                state.status = state.status & !FLAGS | flags;
+                desk.maker.begin(state);
+                // Where there is no room, or an alarm comes, another desk goes on.
+                let mut rest = left.clone();
+                while let Some(byte) = rest.pop() {
+                    if !desk.maker.free_here() {
+                        rest.push(byte);
+                        break;
+                    }
+                    let code = desk.pick_command(byte, None);
+                    desk.maker.code(&code);
+                    if desk.maker.step().event != Event::Plain {
+                        rest.push(byte);
+                        break;
+                    }
                 }
-                let code = desk.pick_command(byte, None);
-                desk.maker.code(&code);
-                desk.maker.step();
+                if let Some(case) = desk.maker.finish_true() {
+                    cases.push(case);
+                    left = rest;
+                }
             }
-            cases.push(desk.maker.finish());
         }
     }
 }

@@ -1,16 +1,17 @@
 //! Desks with pages of every kind, and operands that fail at a chosen part.
 
-use super::layout::{layout, value, Kind, Layout};
-use super::pick::{forms_of, Seen};
+use super::layout::{layout, value, Kind, Layout, DATA_KINDS};
+use super::pick::{forms_of, reason_of, Seen};
 use crate::asm;
 use crate::code::{Op, Role};
+use crate::map::Reason;
 use crate::operand::Fields;
 use crate::rng::Rng;
 use crate::state::*;
 
 /// Good pages with one bad page of each kind between them.
 pub fn trap_desk(rng: &mut Rng) -> Layout {
-    let mut bad = [Kind::Absent, Kind::Forbidden, Kind::ReadOnly, Kind::Past];
+    let mut bad = [Kind::Absent, Kind::Forbidden, Kind::ReadOnly, Kind::Past, Kind::WritableData, Kind::ReadOnlyData];
     super::shuffle(rng, &mut bad);
     let mut kinds = vec![Kind::Writable];
     for kind in bad {
@@ -23,7 +24,7 @@ pub fn trap_desk(rng: &mut Rng) -> Layout {
         if desk.maker.rng.chance(40) {
             state.registers[i] = match i {
                 0..=3 => desk.maker.rng.below(9),
-                4..=9 => desk.address(false, 4, true),
+                4..=9 => desk.address(false, 4, Reason::Write),
                 _ => value(&mut desk.maker.rng, 4),
             };
         }
@@ -40,7 +41,8 @@ impl Layout {
         let kinds: &[Kind] = match number {
             9 => &[Kind::Absent],
             10 => &[Kind::Forbidden, Kind::Past],
-            11 => &[Kind::ReadOnly],
+            11 => &[Kind::ReadOnly, Kind::ReadOnlyData],
+            21 => &DATA_KINDS,
             _ => {
                 return match self.maker.rng.below(6) {
                     0 => self.maker.rng.word() / FRAME_BYTES | 0x40_0000,
@@ -53,8 +55,8 @@ impl Layout {
         self.maker.rng.pick(&pages)
     }
 
-    /// An address whose first failing byte among `size` gives `number`. In
-    /// kernel mode only 8 is possible.
+    /// An address whose first failing byte among `size` gives `number`, 21 where it is fetched.
+    /// In kernel mode only 8 is possible.
     pub fn failing(&mut self, size: u32, number: u32) -> u32 {
         let back = if size > 1 && self.maker.rng.chance(50) { 1 + self.maker.rng.below(size - 1) } else { 0 };
         if self.maker.state.kernel() {
@@ -123,8 +125,7 @@ impl Layout {
     pub fn fine(&mut self, seen: &mut Seen, op: Op, role: Role, size: u32) -> Fields {
         let form = self.maker.rng.pick(forms_of(role));
         if form >= 7 {
-            let write = role == Role::Destination || role == Role::Both;
-            let target = self.free_address(size, write);
+            let target = self.free_address(size, reason_of(role));
             let (x, y) = (self.maker.rng.below(12) as u8, self.maker.rng.below(12) as u8);
             return self.aimed_in(seen, size, target, form, x, y, 0);
         }
@@ -134,7 +135,7 @@ impl Layout {
     /// An operand that breaks a form rule for its role and L, by a number
     /// from 0 on; `None` when the rule can't be broken there.
     pub fn broken(&mut self, rule: u32, role: Role, size: u32) -> Option<Fields> {
-        let at = self.free_address(4, true);
+        let at = self.free_address(4, Reason::Write);
         let written = role == Role::Destination || role == Role::Both;
         let some = 1 + self.maker.rng.below(15) as u8;
         let bit = 1u32 << self.maker.rng.below(32);

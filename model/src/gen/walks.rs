@@ -7,6 +7,7 @@ use super::{family_rng, known_bytes, unknown_bytes};
 use crate::asm;
 use crate::case::{Call, Case};
 use crate::code::decode;
+use crate::map::DATA;
 use crate::rng::Rng;
 use crate::state::*;
 
@@ -15,10 +16,12 @@ pub fn any_kinds(rng: &mut Rng) -> Vec<Kind> {
     let mut kinds = Vec::new();
     for _ in 0..count {
         kinds.push(match rng.below(100) {
-            0..=59 => Kind::Writable,
-            60..=75 => Kind::ReadOnly,
-            76..=87 => Kind::Absent,
-            88..=93 => Kind::Forbidden,
+            0..=49 => Kind::Writable,
+            50..=61 => Kind::ReadOnly,
+            62..=70 => Kind::WritableData,
+            71..=77 => Kind::ReadOnlyData,
+            78..=88 => Kind::Absent,
+            89..=94 => Kind::Forbidden,
             _ => Kind::Past,
         });
     }
@@ -61,6 +64,12 @@ fn user_command(desk: &mut Layout, bytes: &[u8]) -> Vec<u8> {
             let pair = if desk.maker.rng.chance(50) { [place, register] } else { [register, place] };
             return asm::command(byte, &pair);
         }
+        5..=8 => {
+            // Into a page without commands, or before one.
+            if let Some(target) = desk.data_address() {
+                return desk.any_leading(target);
+            }
+        }
         _ => {}
     }
     let byte = match desk.maker.rng.below(12) {
@@ -90,7 +99,10 @@ fn kernel_command(desk: &mut Layout, bytes: &[u8]) -> Vec<u8> {
             let page = argument / FRAME_BYTES;
             let page = if page < desk.kinds.len() as u32 + 2 { page } else { 0 };
             let frame = desk.first_frame + desk.maker.rng.below(desk.frames - desk.first_frame);
-            let access = if desk.maker.rng.chance(80) { 0xC000_0000 } else { 0x8000_0000 };
+            let mut access = if desk.maker.rng.chance(80) { 0xC000_0000 } else { 0x8000_0000 };
+            if desk.maker.rng.chance(15) {
+                access |= DATA;
+            }
             let to = desk.maker.point_at(desk.maker.state.map_base + 4 * page);
             asm::command(0x12, &[asm::immediate(access | frame), to])
         }
@@ -210,7 +222,8 @@ pub fn noise_case(rng: &mut Rng, round: u32) -> Case {
     }
     if rng.chance(80) {
         for page in 0..state.map_length {
-            let entry = rng.word() & 0xC000_0000 | 0x8000_0000 | rng.below(frames + 1);
+            let data = if rng.chance(15) { DATA } else { 0 };
+            let entry = rng.word() & 0xC000_0000 | 0x8000_0000 | data | rng.below(frames + 1);
             maker.lay_word(state.map_base + 4 * page, entry);
         }
     }

@@ -9,6 +9,7 @@ use crate::gen::list_programs::parts;
 use crate::gen::refusals::{any_level, good_state};
 use crate::gen::walks::{any_kinds, noise_case, prepare, walk};
 use crate::gen::{all, known_bytes};
+use crate::map::DATA;
 use crate::rng::Rng;
 
 /// The generator's own cases.
@@ -235,7 +236,8 @@ fn large(rng: &mut Rng) -> Sequence {
             // User mode under a map of the last frames, one of them past the memory.
             let base = length - 1024;
             for page in 0..4 {
-                let entry = 0xC000_0000 | (length / 512 - 2 + page);
+                let data = if rng.chance(15) { DATA } else { 0 };
+                let entry = 0xC000_0000 | data | (length / 512 - 2 + page);
                 memory[(base + 4 * page) as usize..][..4].copy_from_slice(&entry.to_be_bytes());
             }
             session.put_memory(&memory);

@@ -3,6 +3,8 @@
 //! kernel code at 512, system entry i leading to 600h + 8 × i.
 
 mod edits;
+mod fetch_entries;
+mod fetches;
 mod forms;
 mod joint;
 mod lists;

@@ -1,4 +1,4 @@
-//! Numbers 1 to 16.
+//! Numbers 1 to 16; 21 is in `fetches.rs`.
 
 use super::*;
 use crate::asm::*;
@@ -142,7 +142,11 @@ fn numbers_8_to_11() {
         let mut desk = user();
         desk.entry(2, 0xC000_0006 | 1 << bit);
         desk.code(&command(0x10, &[absolute(1025), register(1)]));
-        assert_eq!(desk.alarmed(), (10, 1025));
+        if bit < 29 {
+            assert_eq!(desk.alarmed(), (10, 1025));
+        } else {
+            assert_eq!(desk.step(), Event::Plain);
+        }
     }
     let mut desk = kernel();
     desk.code(&command(0x12, &[absolute(8189), register(1)]));

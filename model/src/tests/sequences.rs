@@ -1,6 +1,7 @@
 //! Sequences: the 90 bytes of a state, and that they are the calls' own answers.
 
 use crate::case::play;
+use crate::desk;
 use crate::gen;
 use crate::joint::load_both;
 use crate::load;
@@ -72,6 +73,38 @@ fn same_sequences_each_time() {
         assert!(random::sequence(3, index) == random::sequence(3, index));
     }
     assert!(stream::body(&random::sequence(3, 1)) != stream::body(&random::sequence(4, 1)));
+}
+
+/// Plays random sequences on the desk and counts alarms 21: at the command byte, and later.
+#[test]
+fn random_sequences_meet_pages_without_commands() {
+    let (mut first, mut later) = (0, 0);
+    for index in 0..600 {
+        let sequence = random::sequence(3, index);
+        let mut memory = sequence.memory.clone();
+        let mut state = sequence.state;
+        for (act, left) in &sequence.acts {
+            match act {
+                Act::State(bytes) => state = *bytes,
+                Act::Memory { at, bytes } => memory[*at as usize..][..bytes.len()].copy_from_slice(bytes),
+                Act::Length(length) => memory.resize(*length as usize, 0),
+                _ => {}
+            }
+            let Some(left) = left else { continue };
+            if *act == Act::Step {
+                let stepped = desk::step(&unpacked(&state), &mut memory.clone());
+                if let Event::Entry { cause: 2, saved } = stepped.event {
+                    assert_eq!(left.answer, 2 << 32 | 2);
+                    *(if saved[60..64] == saved[68..] { &mut first } else { &mut later }) += 1;
+                }
+            }
+            for change in &left.changes {
+                memory[change.at as usize..][..change.bytes.len()].copy_from_slice(&change.bytes);
+            }
+            state = left.state;
+        }
+    }
+    assert!(first > 30 && later > 10, "{first} {later}");
 }
 
 #[test]

@@ -8,7 +8,7 @@ use crate::store;
 fn written_is_read_back() {
     let lists = gen::lists::puts().into_iter().chain(gen::list_programs::programs());
     let pairs = gen::pair_refusals::scratches().into_iter().chain(gen::pair_programs::programs());
-    let lists = lists.chain(pairs);
+    let lists = lists.chain(pairs).chain(gen::fetches::fetches());
     let cases = gen::refusals::refusals().into_iter().chain(gen::entries::interrupts()).chain(lists);
     let pairs: Vec<_> = cases
         .filter(|case| case.image.len() <= store::SMALL)
@@ -29,4 +29,6 @@ fn same_cases_each_time() {
     assert!(gen::shifts::shifts() == gen::shifts::shifts());
     assert!(gen::pairs::mixed() == gen::pairs::mixed());
     assert!(gen::pair_refusals::orders() == gen::pair_refusals::orders());
+    assert!(gen::fetches::fetches() == gen::fetches::fetches());
+    assert!(gen::data_pages::data_pages() == gen::data_pages::data_pages());
 }
