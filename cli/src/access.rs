@@ -48,10 +48,11 @@ pub fn to(desk: &Desk, memory: &[u8], names: &Names, address: u32, write: bool) 
                 uses.next()
             }
         }
-        Err(Trouble::Unreadable(at)) if at == address => {
-            let words = match at == desk.register(15) {
-                true => "R15, where the next command is read".to_string(),
-                false => format!("the bytes of the command at R15, {}", hexadecimal(desk.register(15))),
+        Err(trouble @ (Trouble::Unreadable(at) | Trouble::NoFetch(at))) if at == address => {
+            let words = match (at == desk.register(15), trouble) {
+                (true, Trouble::NoFetch(_)) => "R15, where the next command is fetched".to_string(),
+                (true, _) => "R15, where the next command is read".to_string(),
+                (false, _) => format!("the bytes of the command at R15, {}", hexadecimal(desk.register(15))),
             };
             Some(Access { words, address, length: 1, register: Some(15), fixed: false, steps: None })
         }

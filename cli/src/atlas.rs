@@ -40,7 +40,7 @@ pub struct Reach {
     /// The place of the program in the atlas.
     pub program: usize,
     pub page: u32,
-    pub write: bool,
+    pub rights: Rights,
 }
 
 /// Programs and frames of a memory.
@@ -63,7 +63,7 @@ impl Atlas {
         for (place, program) in programs.iter().enumerate() {
             for page in &program.pages {
                 if let Ok((frame, rights)) = page.leads {
-                    let reach = Reach { program: place, page: page.number, write: rights.write };
+                    let reach = Reach { program: place, page: page.number, rights };
                     let reaches = reached.entry(frame).or_default();
                     if reaches.iter().filter(|reach| reach.program == place).count() < MOST_REACHES {
                         reaches.push(reach);

@@ -53,16 +53,11 @@ pub fn things(machine: &Machine, atlas: &Atlas) -> Vec<Thing> {
     things
 }
 
-/// The causes that can come.
-fn causes() -> impl Iterator<Item = u32> {
-    std::iter::once(1).chain(8..=15).chain(17..=31)
-}
-
 /// The system block: where the kernel goes on for each cause.
 pub fn entries(known: &Known, memory: &[u8], system: u32) -> Vec<String> {
     let mut lines = vec![format!("system block at {}: the kernel is entered", known.real_place(system))];
     let mut missing = Vec::new();
-    for cause in causes() {
+    for cause in words::causes() {
         let at = system.wrapping_add(8 * cause);
         let (r15, status) = (view::word(memory, at).unwrap_or(0), view::word(memory, at.wrapping_add(4)).unwrap_or(0));
         match status & 0x8000_0000 != 0 && status & 0x7FFF_FF00 == 0 {

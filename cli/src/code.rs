@@ -2,7 +2,7 @@
 
 use crate::decode;
 use crate::effect;
-use crate::machine::Machine;
+use crate::machine::{self, Machine};
 use crate::trial;
 use crate::view;
 use midesk::{numbers, Desk};
@@ -78,7 +78,7 @@ fn follow(machine: &Machine, desk: &Desk, mut waiting: Vec<u32>, code: &mut BTre
         if (halt && !desk.is_kernel()) || code.len() >= MOST || code.contains(&real) {
             continue;
         }
-        let Ok(command) = decode::decode(&|at| effect::byte(desk, &machine.memory, at), address) else { continue };
+        let Ok(command) = machine::command_at(desk, &machine.memory, address) else { continue };
         code.insert(real);
         waiting.extend(command.jump_target());
         if command.falls_through() {

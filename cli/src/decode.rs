@@ -26,22 +26,29 @@ pub struct Decoded {
 pub enum Trouble {
     /// The byte at this address cannot be read.
     Unreadable(u32),
+    /// The byte at this address can be read, but not fetched (alarm 21).
+    NoFetch(u32),
     /// No command has this byte (alarm 12).
     Unknown(u8),
     /// The operand at this place, from 1, breaks a rule (alarm 14).
     Form { place: usize, fields: Fields },
 }
 
-/// The command at an address; `fetch` gives the byte at an address, if it can be read.
-pub fn decode(fetch: &dyn Fn(u32) -> Option<u8>, address: u32) -> Result<Decoded, Trouble> {
-    let first = fetch(address).ok_or(Trouble::Unreadable(address))?;
+/// The command at an address; `read` gives the byte at an address, if there is one.
+pub fn decode(read: &dyn Fn(u32) -> Option<u8>, address: u32) -> Result<Decoded, Trouble> {
+    of_fetched(&|at| read(at).ok_or(Trouble::Unreadable(at)), address)
+}
+
+/// The command at an address; `fetch` gives the byte at an address, or why it cannot be fetched.
+pub fn of_fetched(fetch: &dyn Fn(u32) -> Result<u8, Trouble>, address: u32) -> Result<Decoded, Trouble> {
+    let first = fetch(address)?;
     let command = table::command(first).ok_or(Trouble::Unknown(first))?;
     let mut decoded = Decoded { address, bytes: vec![first], command, operands: Vec::new() };
     for (place, operand) in command.operands.iter().enumerate() {
         let mut six = [0; 6];
         for byte in &mut six {
             let at = decoded.next();
-            *byte = fetch(at).ok_or(Trouble::Unreadable(at))?;
+            *byte = fetch(at)?;
             decoded.bytes.push(*byte);
         }
         let fields = Fields::of_bytes(six);

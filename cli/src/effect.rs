@@ -1,7 +1,7 @@
 //! Which bytes a command may write: its destination's place, worked out as the manual says, so that a step can be shown and
 //! undone without looking through the whole memory. `tests/run_effect.rs` compares it with the whole memory.
 
-use crate::decode::{Decoded, Fields};
+use crate::decode::{Decoded, Fields, Trouble};
 use crate::forms;
 use crate::table::{Role, Size};
 use crate::view;
@@ -26,6 +26,15 @@ pub fn real(desk: &Desk, memory: &[u8], address: u32) -> Option<u32> {
 /// The byte at an address in the desk's mode.
 pub fn byte(desk: &Desk, memory: &[u8], address: u32) -> Option<u8> {
     real(desk, memory, address).and_then(|real| view::byte(memory, real))
+}
+
+/// The byte at an address in the desk's mode, fetched for a command.
+pub fn fetched_byte(desk: &Desk, memory: &[u8], address: u32) -> Result<u8, Trouble> {
+    let real = match desk.is_kernel() {
+        true => address,
+        false => view::real_to_fetch(memory, desk.map_base(), desk.map_length(), address)?,
+    };
+    view::byte(memory, real).ok_or(Trouble::Unreadable(address))
 }
 
 /// The word at an address in the desk's mode, byte by byte.

@@ -35,12 +35,13 @@ impl Hint {
 /// The hints for a finding, what comes first first; `desk` is the desk before the command.
 pub fn of(known: &Known, memory: &[u8], desk: &Desk, finding: Finding) -> Vec<Hint> {
     match finding {
-        Finding::Cause(cause @ 8..=11, address) if !no_stack(memory, desk) => {
+        Finding::Cause(cause @ (8..=11 | numbers::NO_FETCH), address) if !no_stack(memory, desk) => {
             let gave = neighbours::address(known, memory, desk, cause, address);
             let mut hints: Vec<Hint> = gave.map(|words| Hint::new("address", words)).into_iter().collect();
-            hints.push(match desk.is_kernel() {
-                true => Hint::new("memory", format!("it ends at {}", hexadecimal(memory.len() as u32))),
-                false => Hint::new("map", entry(known, memory, desk, address)),
+            hints.push(match (desk.is_kernel(), cause) {
+                (true, _) => Hint::new("memory", format!("it ends at {}", hexadecimal(memory.len() as u32))),
+                (false, numbers::NO_FETCH) => Hint::new("map", entry_to_fetch(known, memory, desk, address)),
+                (false, _) => Hint::new("map", entry(known, memory, desk, address)),
             });
             hints
         }
@@ -73,6 +74,28 @@ fn no_stack(memory: &[u8], desk: &Desk) -> bool {
     desk.register(14) == 0 && command.is_ok_and(|command| matches!(command.command.name, "CALL" | "PUSHR"))
 }
 
+/// What the map has for an address from which no command may be fetched.
+fn entry_to_fetch(known: &Known, memory: &[u8], desk: &Desk, address: u32) -> String {
+    let (base, page) = (desk.map_base(), address / 512);
+    match view::real(memory, base, desk.map_length(), address) {
+        Ok((real, rights)) if !rights.fetch => {
+            let allowed = if rights.write { "reading and writing it are" } else { "reading it is" };
+            let (map, entry) = (map_name(known, base), entry_words(memory, base, page));
+            format!(
+                "page {page} is frame {}, without the right to fetch, in {map} ({entry}); {allowed} allowed",
+                real / 512
+            )
+        }
+        _ => entry(known, memory, desk, address),
+    }
+}
+
+/// `entry at 404h: A0000004h`.
+fn entry_words(memory: &[u8], base: u32, page: u32) -> String {
+    let at = base.wrapping_add(4 * page);
+    format!("entry at {}: {:08X}h", hexadecimal(at), view::word(memory, at).unwrap_or(0))
+}
+
 /// What the map has for an address.
 pub fn entry(known: &Known, memory: &[u8], desk: &Desk, address: u32) -> String {
     let (base, length) = (desk.map_base(), desk.map_length());
@@ -81,10 +104,8 @@ pub fn entry(known: &Known, memory: &[u8], desk: &Desk, address: u32) -> String 
     match view::real(memory, base, length, address) {
         Ok((real, rights)) if !rights.write => {
             let (page, frame) = (address / 512, real / 512);
-            format!(
-                "page {page} is frame {frame}, which may only be read, in {map} (entry at {at}: {:08X}h)",
-                0x8000_0000 | frame
-            )
+            let entry = entry_words(memory, base, page);
+            format!("page {page} is frame {frame}, which may only be read, in {map} ({entry})")
         }
         Ok((real, _)) => {
             format!("page {} is frame {}, which may be written, in {map} (entry at {at})", address / 512, real / 512)
@@ -97,7 +118,7 @@ pub fn entry(known: &Known, memory: &[u8], desk: &Desk, address: u32) -> String 
         }
         Err(Damage::Absent { page, entry }) => format!("page {page} is absent in {map} (entry at {at}: {entry:08X}h)"),
         Err(Damage::ForbiddenBits { page, entry }) => {
-            format!("page {page} is damaged in {map}: bits 29 to 24 must be 0 (entry at {at}: {entry:08X}h)")
+            format!("page {page} is damaged in {map}: bits 28 to 24 must be 0 (entry at {at}: {entry:08X}h)")
         }
         Err(Damage::PastMemory { page, frame }) => {
             let frames = memory.len() / 512;
@@ -250,6 +271,7 @@ pub fn trouble(kernel: bool, trouble: &Trouble) -> String {
     match trouble {
         Trouble::Unreadable(at) if kernel => format!("(past the memory: {})", hexadecimal(*at)),
         Trouble::Unreadable(at) => format!("(cannot be read: {})", hexadecimal(*at)),
+        Trouble::NoFetch(at) => format!("(cannot be fetched: {})", hexadecimal(*at)),
         Trouble::Unknown(byte) => format!("(unknown command byte {})", words::byte(u32::from(*byte))),
         Trouble::Form { place, .. } => format!("(operand {place} breaks a rule)"),
     }

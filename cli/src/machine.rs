@@ -110,9 +110,9 @@ impl Machine {
     }
 }
 
-/// The command at an address of the desk's mode.
+/// The command at an address of the desk's mode, if it can be fetched there.
 pub fn command_at(desk: &Desk, memory: &[u8], address: u32) -> Result<Decoded, Trouble> {
-    decode::decode(&|at| effect::byte(desk, memory, at), address)
+    decode::of_fetched(&|at| effect::fetched_byte(desk, memory, at), address)
 }
 
 /// The level of the interrupt that the next step enters.

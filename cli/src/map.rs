@@ -134,17 +134,10 @@ fn follows(last: &Page, page: &Page) -> bool {
 
 fn row(first: &Page, last: &Page, remark: String) -> Row {
     let (frames, real, may) = match (&first.leads, &last.leads) {
-        (Ok((from, rights)), Ok((to, _))) => (span(*from, *to), addresses(*from, *to), may(rights.write)),
+        (Ok((from, rights)), Ok((to, _))) => (span(*from, *to), addresses(*from, *to), rights.words().to_string()),
         _ => ("-".to_string(), "-".to_string(), "nothing".to_string()),
     };
     [span(first.number, last.number), addresses(first.number, last.number), frames, real, may, remark]
-}
-
-fn may(write: bool) -> String {
-    match write {
-        true => "read, write, run".to_string(),
-        false => "read, run".to_string(),
-    }
 }
 
 fn span(first: u32, last: u32) -> String {
@@ -174,7 +167,7 @@ fn remark(atlas: &Atlas, things: &[Thing], program: &Mapped, page: &Page) -> Str
         Err(Damage::Absent { entry: 0, .. }) => "absent: alarm 9".to_string(),
         Err(Damage::Absent { entry, .. }) => format!("absent, though its entry at {at} is {entry:08X}h: alarm 9"),
         Err(Damage::ForbiddenBits { entry, .. }) => {
-            format!("damaged: bits 29 to 24 must be 0, the entry at {at} is {entry:08X}h: alarm 10")
+            format!("damaged: bits 28 to 24 must be 0, the entry at {at} is {entry:08X}h: alarm 10")
         }
         Err(Damage::PastMemory { frame, .. }) => {
             format!("damaged: frame {frame} is past the memory's {} (entry at {at}): alarm 10", atlas.frames)
@@ -189,10 +182,10 @@ fn sharers(atlas: &Atlas, program: &Mapped, page: u32, frame: u32) -> Vec<String
     for reach in atlas.reaches(frame) {
         let Some(other) = atlas.programs.get(reach.program) else { continue };
         if other.control_block != program.control_block {
-            let write = if reach.write { ", may write" } else { "" };
+            let write = if reach.rights.write { ", may write" } else { "" };
             others.push(format!("{} (page {}{write})", other.name, reach.page));
         } else if reach.page != page {
-            own.push(format!("{}{}", reach.page, if reach.write { " (may write)" } else { "" }));
+            own.push(format!("{}{}", reach.page, if reach.rights.write { " (may write)" } else { "" }));
         }
     }
     let mut remarks = Vec::new();

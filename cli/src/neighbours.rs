@@ -5,7 +5,7 @@ use crate::access::{Access, Step};
 use crate::lists;
 use crate::machine::Known;
 use crate::notation::{self, hexadecimal};
-use crate::view;
+use crate::view::{self, Rights};
 use midesk::{numbers, Desk};
 
 /// An address that is so many bytes past a page or before one has probably run out of it.
@@ -45,21 +45,55 @@ fn given(access: &Access, address: u32) -> String {
 struct Pages<'a> {
     memory: &'a [u8],
     desk: &'a Desk,
-    write: bool,
+    wanted: Wanted,
+}
+
+/// What a page is wanted for.
+#[derive(Clone, Copy, PartialEq, Eq)]
+enum Wanted {
+    Reading,
+    Writing,
+    Fetching,
+}
+
+impl Wanted {
+    fn of(cause: u32) -> Wanted {
+        match cause {
+            numbers::READ_ONLY => Wanted::Writing,
+            numbers::NO_FETCH => Wanted::Fetching,
+            _ => Wanted::Reading,
+        }
+    }
+
+    /// So many bytes past a page or before one are near it. Commands that run out of a page do so at its end.
+    fn near(self) -> u32 {
+        match self {
+            Wanted::Reading | Wanted::Writing => NEAR,
+            Wanted::Fetching => 1,
+        }
+    }
+
+    fn allowed(self, rights: Rights) -> bool {
+        match self {
+            Wanted::Reading => true,
+            Wanted::Writing => rights.write,
+            Wanted::Fetching => rights.fetch,
+        }
+    }
 }
 
 impl Pages<'_> {
     fn fits(&self, page: u32) -> bool {
         let (base, length) = (self.desk.map_base(), self.desk.map_length());
         let Some(address) = page.checked_mul(512) else { return false };
-        view::real(self.memory, base, length, address).is_ok_and(|(_, rights)| rights.write || !self.write)
+        view::real(self.memory, base, length, address).is_ok_and(|(_, rights)| self.wanted.allowed(rights))
     }
 
     fn may(&self) -> &'static str {
-        if self.write {
-            "which may be written"
-        } else {
-            "which is there"
+        match self.wanted {
+            Wanted::Reading => "which is there",
+            Wanted::Writing => "which may be written",
+            Wanted::Fetching => "which may be run",
         }
     }
 
@@ -73,14 +107,15 @@ impl Pages<'_> {
             }
         }
         let more = runs.len().saturating_sub(MOST);
-        let mut words: Vec<String> = runs.iter().take(MOST).map(|(first, last)| pages(*first, *last)).collect();
+        let mut words: Vec<String> =
+            runs.iter().take(MOST).map(|(first, last)| with_addresses(*first, *last)).collect();
         words.extend((more > 0).then(|| format!("{more} runs of pages more")));
         lists::and(&words)
     }
 }
 
 /// `page 2 (400h to 5FFh)`.
-pub fn pages(first: u32, last: u32) -> String {
+fn with_addresses(first: u32, last: u32) -> String {
     let addresses = format!("({} to {})", hexadecimal(first * 512), hexadecimal(last * 512 + 511));
     match first == last {
         true => format!("page {first} {addresses}"),
@@ -89,24 +124,28 @@ pub fn pages(first: u32, last: u32) -> String {
 }
 
 fn place(memory: &[u8], desk: &Desk, cause: u32, address: u32, access: Option<&Access>) -> Option<String> {
-    let pages = Pages { memory, desk, write: cause == numbers::READ_ONLY };
+    let pages = Pages { memory, desk, wanted: Wanted::of(cause) };
     let down = access.is_some_and(|access| access.steps == Some(Step::Down));
     let near = match down {
         true => before(&pages, address, access).or_else(|| after(&pages, address, access)),
         false => after(&pages, address, access).or_else(|| before(&pages, address, access)),
     };
-    near.or_else(|| match (pages.write, pages.listed()) {
-        (true, listed) if listed.is_empty() => Some("no page may be written".to_string()),
-        (true, listed) => Some(format!("only {listed} may be written")),
-        (false, _) => None,
+    let be = match pages.wanted {
+        Wanted::Reading => return near,
+        Wanted::Writing => "written",
+        Wanted::Fetching => "run",
+    };
+    near.or_else(|| match pages.listed() {
+        listed if listed.is_empty() => Some(format!("no page may be {be}")),
+        listed => Some(format!("only {listed} may be {be}")),
     })
 }
 
 /// The address lies just past a page.
-fn after(wanted: &Pages, address: u32, access: Option<&Access>) -> Option<String> {
-    let page = (address / 512).checked_sub(1).filter(|page| wanted.fits(*page))?;
+fn after(pages: &Pages, address: u32, access: Option<&Access>) -> Option<String> {
+    let page = (address / 512).checked_sub(1).filter(|page| pages.fits(*page))?;
     let distance = address % 512;
-    if distance >= NEAR {
+    if distance >= pages.wanted.near() {
         return None;
     }
     let where_ = match distance {
@@ -114,14 +153,14 @@ fn after(wanted: &Pages, address: u32, access: Option<&Access>) -> Option<String
         _ => format!("it is {} bytes past the end of", distance + 1),
     };
     let ran = register(access, Step::Up).map(|name| format!("; {name} past its end")).unwrap_or_default();
-    Some(format!("{where_} {}, {}{ran}", pages(page, page), wanted.may()))
+    Some(format!("{where_} {}, {}{ran}", with_addresses(page, page), pages.may()))
 }
 
 /// The address lies just before a page.
-fn before(wanted: &Pages, address: u32, access: Option<&Access>) -> Option<String> {
-    let page = (address / 512).checked_add(1).filter(|page| wanted.fits(*page))?;
+fn before(pages: &Pages, address: u32, access: Option<&Access>) -> Option<String> {
+    let page = (address / 512).checked_add(1).filter(|page| pages.fits(*page))?;
     let distance = 512 - address % 512;
-    if distance > NEAR {
+    if distance > pages.wanted.near() {
         return None;
     }
     let where_ = match distance {
@@ -129,7 +168,7 @@ fn before(wanted: &Pages, address: u32, access: Option<&Access>) -> Option<Strin
         _ => format!("it is {distance} bytes before the start of"),
     };
     let ran = register(access, Step::Down).map(|name| format!("; {name} before its start")).unwrap_or_default();
-    Some(format!("{where_} {}, {}{ran}", pages(page, page), wanted.may()))
+    Some(format!("{where_} {}, {}{ran}", with_addresses(page, page), pages.may()))
 }
 
 /// `R1, which the command steps up, is`: the register that alone gave the address, unless it steps the other way.

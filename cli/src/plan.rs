@@ -106,10 +106,11 @@ pub fn until(text: &str, known: &Known) -> Result<Until, String> {
         return Ok(Until::Entry(None));
     }
     if let Some(cause) = text.strip_prefix("entry:") {
-        let cause = options::count(cause).filter(|cause| matches!(cause, 1 | 8..=15 | 17..=31));
+        let number = options::count(cause).and_then(|number| u32::try_from(number).ok());
+        let cause = number.filter(|number| words::causes().any(|cause| cause == *number));
         let cause =
-            cause.ok_or_else(|| format!("'{}' names no cause: 1, 8 to 15 or 17 to 31", options::shown(text)))?;
-        return Ok(Until::Entry(Some(cause as u32)));
+            cause.ok_or_else(|| format!("'{}' names no cause: 1, 2, 8 to 15 or 17 to 31", options::shown(text)))?;
+        return Ok(Until::Entry(Some(cause)));
     }
     place(text, known).map(Until::Place)
 }

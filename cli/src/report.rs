@@ -36,9 +36,9 @@ impl Entry {
         let before = saved(machine);
         let at = machine.desk.control_block().wrapping_add(numbers::CONTROL_ARGUMENT as u32);
         let argument = view::word(&machine.memory, at).unwrap_or(0);
-        let by = match cause {
-            8..=15 => format!(", in {}", commanded(machine, &before)),
-            _ => format!(", in {}", machine.known.who(&before)),
+        let by = match words::alarm_of_cause(cause) {
+            Some(_) => format!(", in {}", commanded(machine, &before)),
+            None => format!(", in {}", machine.known.who(&before)),
         };
         let words = format!("cause {cause}: {}{by}", words::cause_with(cause, argument));
         let hints = hints::of(&machine.known, &machine.memory, &before, Finding::Cause(cause, argument));

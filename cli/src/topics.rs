@@ -80,9 +80,10 @@ const MEMORY: &[Text] = &[
     Say("The sizes are B, 1 byte, H, 2 bytes, and W, a word of 4 bytes. A value's highest byte comes first (big-endian): the word 01020304h is stored as 01 02 03 04. Commands and values may stand at any address."),
     Say("The memory is a row of frames of 512 bytes: frame f has the real addresses from 512 x f on. The kernel uses real addresses. A program uses virtual ones, in pages of 512 bytes, and its map says to which frame each page leads: page p has the addresses from 512 x p on, and the word at map base + 4 x p is its entry:"),
     Table(&[
-        ("80000000h", "the page is there; without this bit the entry is absent"),
-        ("40000000h", "it may be written; every page that is there may be read and run"),
-        ("3F000000h", "these bits must be 0"),
+        ("80000000h", "the page is there; without this bit the entry is absent, and the others mean nothing"),
+        ("40000000h", "it may be written; every page that is there may be read"),
+        ("20000000h", "no commands may be fetched from it; without this bit it may be run"),
+        ("1F000000h", "these bits must be 0"),
         ("00FFFFFFh", "the frame's number"),
     ]),
     Say("The system block has 256 bytes: for cause c, at 8 x c, the R15 and the status word with which the kernel is entered. The status must have 80000000h and may have level and flags; with any other the desk stops with 16. A control block has 80 bytes: R0 to R15, the status (at 64), the argument of the last entry (68), map base (72) and map length in pages (76). A kernel entry saves the registers there, RESUME loads them."),
@@ -92,9 +93,10 @@ const MEMORY: &[Text] = &[
 const STOPS: &[(&str, &str)] = &[
     ("0", "stop: HALT"),
     ("1", "cause: a system call; argument: its value"),
+    ("2", "cause: alarm 21"),
     ("8", "alarm: the page is past the map, or in kernel mode the byte past the memory; argument of 8 to 11: the byte's address"),
     ("9", "alarm: the page's map entry is absent"),
-    ("10", "alarm: bits 29 to 24 of the map entry are not 0, or its frame is past the memory"),
+    ("10", "alarm: bits 28 to 24 of the map entry are not 0, or its frame is past the memory"),
     ("11", "alarm: a write to a page whose map entry has no right to write"),
     ("12", "alarm: an unknown command byte; argument: the byte"),
     ("13", "alarm: HALT or RESUME in user mode, a system call in kernel mode; argument: the byte"),
@@ -102,6 +104,7 @@ const STOPS: &[(&str, &str)] = &[
     ("15", "alarm: DIV by zero; argument: 0"),
     ("16", "stop: an alarm, a system call or an interrupt came, and the system block has no valid kernel status for it"),
     ("17 to 31", "cause: an interrupt of level 1 to 15; argument: the level"),
+    ("21", "alarm: a byte of a command is fetched from a page without commands, whose map entry has 20000000h; its cause is 2, since 21 is that of an interrupt; argument: the byte's address"),
 ];
 
 const REFUSALS: &[(&str, &str)] = &[

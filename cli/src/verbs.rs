@@ -88,7 +88,7 @@ pub const VERBS: &[Verb] = &[
             with(
                 "--until",
                 "WHERE",
-                "ends before the command at an address or name, or after a kernel entry: `entry`, or `entry:11` for one cause. An alarm for which the system block has no entry is stop 16, and no kernel entry",
+                "ends before the command at an address or name, or after a kernel entry: `entry`, or `entry:11` for one cause, which of alarm 21 is 2. An alarm for which the system block has no entry is stop 16, and no kernel entry",
             ),
             many("--dump", "ADDRESS[,COUNT]", "shows COUNT bytes of memory (64) at the end, from a real address or a name on"),
             flag("--json", "a JSON object for each line of output"),
@@ -103,7 +103,7 @@ pub const VERBS: &[Verb] = &[
                 ("command, bytes", "in MI's notation and as hexadecimal digits; null where there is no command, and for an interrupt"),
                 ("event", "`done`, `entry` or `stop`"),
                 ("number", "the cause of an entry or the number of a stop, else null"),
-                ("cause, argument", "of an entry, and of the alarm or interrupt behind a stop, else null"),
+                ("cause, argument", "of an entry, and of the alarm or interrupt behind a stop, else null; the cause of alarm 21 is 2"),
                 ("words", "an entry or a stop in words, else null"),
                 ("r15, status, flags", "after the step"),
                 ("registers", "those changed but R15: objects with name, old and new"),

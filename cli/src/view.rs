@@ -1,9 +1,31 @@
 //! Memory as a program sees it: a virtual address through its map.
 
-/// What a program may do with a byte.
+use crate::decode::Trouble;
+pub use midesk::numbers::{
+    MAP_FRAME as FRAME, MAP_NO_FETCH as NO_FETCH, MAP_PRESENT as PRESENT, MAP_WRITABLE as WRITABLE,
+};
+
+/// Map entry: bits that must be 0 where the page is there.
+pub const FORBIDDEN: u32 = !(PRESENT | WRITABLE | NO_FETCH | FRAME);
+
+/// What a program may do with a byte, besides reading it.
 #[derive(Clone, Copy, PartialEq, Eq, Debug)]
 pub struct Rights {
     pub write: bool,
+    /// Whether it may be fetched, as a byte of a command.
+    pub fetch: bool,
+}
+
+impl Rights {
+    /// In words, as tables, listings and pictures have them.
+    pub fn words(self) -> &'static str {
+        match (self.write, self.fetch) {
+            (true, true) => "read, write, run",
+            (true, false) => "read, write",
+            (false, true) => "read, run",
+            (false, false) => "read",
+        }
+    }
 }
 
 /// Why a virtual address leads nowhere.
@@ -13,7 +35,7 @@ pub enum Damage {
     PastMap { page: u32 },
     /// The entry is absent (alarm 9).
     Absent { page: u32, entry: u32 },
-    /// One of bits 29 to 24 is set (alarm 10).
+    /// One of bits 28 to 24 is set (alarm 10).
     ForbiddenBits { page: u32, entry: u32 },
     /// The frame lies past the memory (alarm 10).
     PastMemory { page: u32, frame: u32 },
@@ -45,19 +67,28 @@ pub fn real(memory: &[u8], map_base: u32, map_length: u32, address: u32) -> Resu
     Ok((frame * 512 + address % 512, rights))
 }
 
+/// The real address of a virtual one, of a byte that is fetched for a command.
+pub fn real_to_fetch(memory: &[u8], map_base: u32, map_length: u32, address: u32) -> Result<u32, Trouble> {
+    match real(memory, map_base, map_length, address) {
+        Ok((real, rights)) if rights.fetch => Ok(real),
+        Ok(_) => Err(Trouble::NoFetch(address)),
+        Err(_) => Err(Trouble::Unreadable(address)),
+    }
+}
+
 /// The frame and the rights of a map entry.
 pub fn entry_of(memory: &[u8], page: u32, entry: u32) -> Result<(u32, Rights), Damage> {
-    if entry & 0x8000_0000 == 0 {
+    if entry & PRESENT == 0 {
         return Err(Damage::Absent { page, entry });
     }
-    if entry & 0x3F00_0000 != 0 {
+    if entry & FORBIDDEN != 0 {
         return Err(Damage::ForbiddenBits { page, entry });
     }
-    let frame = entry & 0x00FF_FFFF;
+    let frame = entry & FRAME;
     if (u64::from(frame) + 1) * 512 > memory.len() as u64 {
         return Err(Damage::PastMemory { page, frame });
     }
-    Ok((frame, Rights { write: entry & 0x4000_0000 != 0 }))
+    Ok((frame, Rights { write: entry & WRITABLE != 0, fetch: entry & NO_FETCH == 0 }))
 }
 
 /// The byte at a real address.

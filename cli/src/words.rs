@@ -2,8 +2,9 @@
 
 use crate::notation;
 use crate::table;
+use midesk::numbers::NO_FETCH;
 
-/// What a number says as an alarm: in user mode, and in kernel mode.
+/// What a number says as an alarm: in user mode, and in kernel mode, where 9 to 11 and 21 do not come.
 const ALARMS: &[(u32, &str, &str)] = &[
     (8, "an address past the map", "an address past the memory"),
     (9, "an absent page", "an absent page"),
@@ -13,7 +14,31 @@ const ALARMS: &[(u32, &str, &str)] = &[
     (13, "a command that only kernel mode has", "a system call in kernel mode"),
     (14, "an operand that breaks a rule", "an operand that breaks a rule"),
     (15, "DIV by zero", "DIV by zero"),
+    (21, "a fetch from a page without commands", "a fetch from a page without commands"),
 ];
+
+/// The causes that can come.
+pub fn causes() -> impl Iterator<Item = u32> {
+    [1, NO_FETCH].into_iter().chain(8..=15).chain(17..=31)
+}
+
+/// The cause of an alarm's kernel entry: its number, but 2 for 21; cause 21 is an interrupt.
+pub fn cause_of_alarm(alarm: u32) -> Option<u32> {
+    match alarm {
+        8..=15 => Some(alarm),
+        21 => Some(NO_FETCH),
+        _ => None,
+    }
+}
+
+/// The alarm whose kernel entry has a cause.
+pub fn alarm_of_cause(cause: u32) -> Option<u32> {
+    match cause {
+        8..=15 => Some(cause),
+        NO_FETCH => Some(21),
+        _ => None,
+    }
+}
 
 /// What a number says as the refusal of a load list, or of two.
 const LIST_REFUSALS: &[(u32, &str)] = &[
@@ -26,18 +51,18 @@ const LIST_REFUSALS: &[(u32, &str)] = &[
 
 /// A cause of a kernel entry: `alarm 9, an absent page`.
 pub fn cause(number: u32) -> String {
-    match number {
-        8..=15 => format!("alarm {number}, {}", alarm(number, false)),
-        _ => event(number),
+    match alarm_of_cause(number) {
+        Some(number) => format!("alarm {number}, {}", alarm(number, false)),
+        None => event(number),
     }
 }
 
 /// A cause without what it means: `a system call`, `alarm 9`.
 pub fn event(number: u32) -> String {
-    match number {
-        1 => "a system call".to_string(),
-        8..=15 => format!("alarm {number}"),
-        17..=31 => format!("an interrupt of level {}", number - 16),
+    match (number, alarm_of_cause(number)) {
+        (_, Some(alarm)) => format!("alarm {alarm}"),
+        (1, _) => "a system call".to_string(),
+        (17..=31, _) => format!("an interrupt of level {}", number - 16),
         _ => format!("number {number}, which this version has no words for"),
     }
 }
@@ -95,7 +120,9 @@ pub fn alarm_with(number: u32, argument: u32) -> String {
 fn argued(words: String, number: u32, argument: u32) -> String {
     match number {
         1 => format!("{words}, argument {}", both(argument)),
-        8..=11 => format!("{words}, address {} (page {})", notation::hexadecimal(argument), argument / 512),
+        8..=11 | NO_FETCH => {
+            format!("{words}, address {} (page {})", notation::hexadecimal(argument), argument / 512)
+        }
         12 => format!("{words}, {}", byte(argument)),
         13 => format!("{words}, {}", name(argument)),
         14 => format!("{words}, operand {argument}"),
@@ -217,7 +244,7 @@ mod tests {
 
     #[test]
     fn every_cause_stop_and_refusal_has_words() {
-        for number in (8..=15).chain(17..=31).chain([1]) {
+        for number in causes() {
             assert!(!cause_with(number, 3).contains("no words"), "{number}");
         }
         for number in [0, 8, 12, 13, 14, 15, 16] {
@@ -228,5 +255,17 @@ mod tests {
             assert!(!list_refusal(number).contains("no words"), "{number}");
         }
         assert!(list_refusal(20).contains("no words"));
+    }
+
+    #[test]
+    fn alarm_21_has_cause_2_and_cause_21_is_an_interrupt() {
+        assert_eq!(cause_with(2, 0x211), "alarm 21, a fetch from a page without commands, address 211h (page 1)");
+        assert_eq!((event(2), event(21)), ("alarm 21".to_string(), "an interrupt of level 5".to_string()));
+        for alarm in 0..40 {
+            let cause = cause_of_alarm(alarm);
+            assert_eq!(cause.is_some(), matches!(alarm, 8..=15 | 21), "{alarm}");
+            assert_eq!(cause.and_then(alarm_of_cause), cause.map(|_| alarm), "{alarm}");
+        }
+        assert_eq!(causes().filter(|cause| alarm_of_cause(*cause).is_some()).count(), 9);
     }
 }

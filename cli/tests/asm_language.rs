@@ -112,6 +112,19 @@ fn a_system_block() {
     assert_eq!(image.system, 0);
 }
 
+/// Alarm 21 has the entry of cause 2; that of cause 21 is level 5's.
+#[test]
+fn alarm_21_has_the_entry_of_cause_2() {
+    let block = |on: &str| assembled("source", &format!("SEG 0\nSYSTEM BLOCK\n{on}")).memory;
+    let image = assembled("source", "SEG 0\nSYSTEM BLOCK\nON ALARM 21 TO 300h, LEVEL 2\nON INTERRUPT 5 TO 304h");
+    assert_eq!([word(&image, 16), word(&image, 20)], [0x300, 0x8000_0020]);
+    assert_eq!([word(&image, 168), word(&image, 172)], [0x304, 0x8000_0000]);
+    assert_eq!(block("ON ALARM 21 TO 300h"), block("ON CAUSE 2 TO 300h"));
+    assert_eq!(block("ON INTERRUPT 5 TO 300h"), block("ON CAUSE 21 TO 300h"));
+    let entry = image.entries.iter().find(|line| line.line == 3).expect("the line");
+    assert_eq!((entry.address, entry.text.as_str()), (16, "ON ALARM 21 TO 300h, LEVEL 2"));
+}
+
 #[test]
 fn a_control_block_and_its_fields_by_name() {
     let source = "SEG 400h\nb: CONTROL BLOCK START p, MAP m, R0 5, SP 800h, LEVEL 3, ARGUMENT 9\nm: MAP\nPAGE 1: FRAME 4, WRITE\n\
@@ -135,6 +148,16 @@ fn maps() {
     let image = assembled("source", source);
     let entries: Vec<u32> = (0..10).map(|i| word(&image, 0x200 + 4 * i)).collect();
     let expected = [0x8000_0003, 0xC000_0005, 0, 6, 0x8000_0008, 0x8000_0009, 0x8000_000A, 0x1234_5678, 0, 0];
+    assert_eq!(entries, expected);
+}
+
+#[test]
+fn pages_without_commands() {
+    let source = "SEG 200h\nMAP\nPAGE 0: FRAME 3, READ, NO FETCH\nPAGE 1: FRAME OF data, WRITE, NO FETCH\n\
+        PAGE 2 TO 4: FRAME 8, READ, NO FETCH -- a row\nPAGE 5: FRAME 7, WRITE, NO FETCH; PAGE 6: FRAME 7, WRITE\nSEG A00h\ndata: DD W 0";
+    let image = assembled("source", source);
+    let entries: Vec<u32> = (0..7).map(|i| word(&image, 0x200 + 4 * i)).collect();
+    let expected = [0xA000_0003, 0xE000_0005, 0xA000_0008, 0xA000_0009, 0xA000_000A, 0xE000_0007, 0xC000_0007];
     assert_eq!(entries, expected);
 }
 

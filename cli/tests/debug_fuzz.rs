@@ -6,7 +6,7 @@ use desk::debug::{dialogue, Place};
 use desk::machine::Machine;
 use support::{images, Random};
 
-const WORDS: [&str; 40] = [
+const WORDS: [&str; 41] = [
     "step",
     "s",
     "run",
@@ -31,6 +31,7 @@ const WORDS: [&str; 40] = [
     "?",
     "entry",
     "entry:11",
+    "entry:2",
     "stop",
     "A",
     "B",

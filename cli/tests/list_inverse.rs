@@ -155,9 +155,10 @@ fn random_image(random: &mut Random, operands: &[(Operand, Vec<Fields>)]) -> Ima
     }
     for _ in 0..random.below(20) {
         let at = 4 * random.below(length / 4);
-        let word: u32 = match random.below(5) {
+        let word: u32 = match random.below(6) {
             0 => 0x8000_0000 + random.below(8) as u32,
             1 => 0xC000_0000 + random.below(8) as u32,
+            4 => 0xA000_0000 + 0x4000_0000 * random.below(2) as u32 + random.below(8) as u32,
             2 => 0x8000_0000,
             3 => random.below(length) as u32,
             _ => random.next() as u32,
@@ -225,7 +226,7 @@ fn a_map_that_is_a_control_block_too_comes_back() {
 fn random_programs(random: &mut Random, operands: &[(Operand, Vec<Fields>)]) -> Image {
     let mut memory = vec![0; 0x1400];
     let put = |memory: &mut [u8], at: usize, word: u32| memory[at..at + 4].copy_from_slice(&word.to_be_bytes());
-    for (cause, place) in [(1, 0x207), (8, 0x20E), (9, 0x20E)] {
+    for (cause, place) in [(1, 0x207), (2, 0x20E), (8, 0x20E), (9, 0x20E)] {
         put(&mut memory, 8 * cause, place);
         put(&mut memory, 8 * cause + 4, 0x8000_0000);
     }
@@ -236,7 +237,18 @@ fn random_programs(random: &mut Random, operands: &[(Operand, Vec<Fields>)]) -> 
         put(&mut memory, block + 72, map as u32);
         put(&mut memory, block + 76, 1 + random.below(8) as u32);
         for page in 0..8 {
-            let bits = *random.pick(&[0x8000_0000, 0x8000_0000, 0xC000_0000, 0xC000_0000, 0, 0xA000_0000]);
+            let bits = *random.pick(&[
+                0x8000_0000,
+                0x8000_0000,
+                0xC000_0000,
+                0xC000_0000,
+                0xA000_0000,
+                0xE000_0000,
+                0,
+                0x2000_0000,
+                0x9000_0000,
+                0xBF00_0000,
+            ]);
             put(&mut memory, map + 4 * page, bits + random.below(12) as u32);
         }
     }
@@ -257,11 +269,114 @@ fn random_programs(random: &mut Random, operands: &[(Operand, Vec<Fields>)]) -> 
 fn random_programs_come_back() {
     let mut random = Random(0x9A_0003);
     let operands = all_edges();
-    let mut shown = 0;
+    let (mut shown, mut without, mut met) = (0, 0, 0);
     for number in 0..200 {
         let image = random_programs(&mut random, &operands);
-        shown += usize::from(listing(&image, "programs").contains(" AT "));
+        let text = listing(&image, "programs");
+        shown += usize::from(text.contains(" AT "));
+        without += usize::from(text.contains(", NO FETCH"));
+        met += usize::from(text.contains("cannot be fetched (alarm 21)"));
         comes_back(&image, &format!("programs {number}"));
     }
     assert!(shown > 100, "only {shown} have a program's page");
+    assert!(without > 100 && met > 20, "{without} have pages without commands, {met} run into one");
+}
+
+/// A program of six pages with every pattern of an entry's high bits, in turn; the kernel has an entry for each cause.
+#[test]
+fn every_entry_of_map_and_system_block_comes_back() {
+    for high in 0..=255_u32 {
+        let mut memory = vec![0; 0x1000];
+        let put = |memory: &mut [u8], at: usize, word: u32| memory[at..at + 4].copy_from_slice(&word.to_be_bytes());
+        for cause in 0..32 {
+            put(&mut memory, 8 * cause, 0x207 + cause as u32);
+            put(&mut memory, 8 * cause + 4, if cause as u32 % 8 == high % 8 { 7 } else { 0x8000_0000 });
+        }
+        memory[0x200..0x207].copy_from_slice(&[5, 0, 0, 0, 0, 1, 0]);
+        put(&mut memory, 0x148, 0x400);
+        put(&mut memory, 0x14C, 6);
+        for (page, frame) in [3, 4, 5, 6, 9, 0x00FF_FFFF].into_iter().enumerate() {
+            put(&mut memory, 0x400 + 4 * page, high << 24 | frame);
+        }
+        let image = of_bytes(memory);
+        let text = listing(&image, "entries");
+        let right = match high {
+            0x80 => "FRAME 6, READ\n",
+            0xA0 => "FRAME 6, READ, NO FETCH\n",
+            0xC0 => "FRAME 6, WRITE\n",
+            0xE0 => "FRAME 6, WRITE, NO FETCH\n",
+            0 => "ABSENT, FRAME 6\n",
+            _ => &format!("WORD {}", desk::notation::hexadecimal(high << 24 | 6)),
+        };
+        let row = right.replace("FRAME 6", "FRAME 3");
+        assert!(
+            text.contains(&format!("PAGE 3: {right}")) || text.contains(&format!("PAGE 0 TO 3: {row}")),
+            "'{right}' is not in\n{text}"
+        );
+        assert_eq!(text.contains("damaged: bits 28 to 24 are not 0"), high >= 0x80 && high & 0x1F != 0, "{text}");
+        comes_back(&image, &format!("entries {high:02X}"));
+    }
+}
+
+/// Alarm 21 is listed as such, also where the source has written CAUSE 2; level 5 keeps cause 21.
+#[test]
+fn alarm_21_is_listed_as_such() {
+    let source = "SEG 0\nSYSTEM BLOCK\nON CAUSE 2 TO 207h -- fetched\nON INTERRUPT 5 TO 208h, LEVEL 5\nSEG 200h\nJUMP 207h\nHALT\nHALT";
+    let image = assembled("source", source);
+    let text = listing(&image, "source");
+    assert!(
+        text.contains("\n0010  00000207 80000000 ") && text.contains("ON ALARM 21 TO L207  -- fetched\n"),
+        "{text}"
+    );
+    assert!(
+        text.contains("\n00A8  00000208 80000050 ") && text.contains("ON INTERRUPT 5 TO L208, LEVEL 5\n"),
+        "{text}"
+    );
+    comes_back(&image, "source");
+    let alone = of_bytes(assembled("alone", "SEG 0\nSYSTEM BLOCK\nON ALARM 21 TO 200h\nSEG 200h\nHALT").memory);
+    assert!(listing(&alone, "alone").contains("SYSTEM BLOCK"));
+}
+
+/// Commands of a source that no program may run, and to which none leads, are data like any other.
+#[test]
+fn commands_that_no_program_may_run_are_listed_as_data() {
+    let source = |right: &str| {
+        format!(
+            "SEG 100h\nb: CONTROL BLOCK START go, MAP m\nSEG 200h\nRESUME b\nSEG 400h\nm: MAP\nPAGE 0: FRAME OF go, READ\n\
+             PAGE 1: FRAME OF other, {right}\nSEG 600h AT 0\ngo: SYSTEM CALL I 0\nSEG 800h AT 200h\nother: CALL 0\nRET"
+        )
+    };
+    let text = listing(&assembled("source", &source("READ")), "source");
+    assert!(text.contains("other: CALL go\n"), "{text}");
+    let image = assembled("source", &source("READ, NO FETCH"));
+    let text = listing(&image, "source");
+    assert!(!text.contains("CALL go") && !text.contains("runs here") && text.contains("other: DD "), "{text}");
+    comes_back(&image, "source");
+}
+
+/// What a program runs into in a page without commands stays data in one piece, with a remark; a page that may be run is the one
+/// that is shown, where a frame has several.
+#[test]
+fn what_cannot_be_fetched_is_listed_as_data() {
+    let source = "SEG 0\nSYSTEM BLOCK\nON ALARM 21 TO done\nSEG 100h\nb: CONTROL BLOCK START go, MAP m\n\
+        SEG 200h\nRESUME b\ndone: HALT\nSEG 400h\nm: MAP\nPAGE 0: FRAME OF go, READ\nPAGE 1: FRAME OF text, READ, NO FETCH\n\
+        PAGE 2: FRAME OF go, WRITE, NO FETCH\nSEG 600h AT 0\ngo: JNE text\nJUMP last\nSEG 7FFh AT 1FFh\nlast: DD B 70h\n\
+        SEG 800h AT 200h\nDD H 0,0,200h\ntext: DD 'zzzz runs, as a row of RETs'";
+    for image in [assembled("source", source), of_bytes(assembled("source", source).memory)] {
+        let text = listing(&image, "source");
+        for words in [
+            "-- frame 3: page 0 of b",
+            " (read, run); page 2 of b",
+            " (read, write)\n",
+            "SEG 600h AT 0\n",
+            "-- frame 4: page 1 of b",
+            " (read)\n",
+            "DD 'zzzz runs, as a row of R'  -- runs here, and the byte at 206h cannot be fetched (alarm 21)",
+            "DD B 70h ",
+            "-- runs here, and the byte at 200h cannot be fetched (alarm 21)",
+        ] {
+            assert!(text.contains(words), "'{words}' is not in\n{text}");
+        }
+        comes_back(&image, "source");
+    }
 }

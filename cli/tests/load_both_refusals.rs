@@ -76,10 +76,10 @@ fn cases() -> Vec<Case> {
 const CLASH_HINT: &str = "which list has the right byte there: the other must put the same byte last, or none";
 
 impl Case {
-    /// The files of the lists, and what is told of which of them.
-    fn files(&self) -> (String, String, String) {
-        let first = written(&format!("two_{}_1.load", self.name), &self.first);
-        let second = written(&format!("two_{}_2.load", self.name), &self.second);
+    /// The files of the lists, for this test alone, and what is told of which of them.
+    fn files(&self, test: &str) -> (String, String, String) {
+        let first = written(&format!("{test}_two_{}_1.load", self.name), &self.first);
+        let second = written(&format!("{test}_two_{}_2.load", self.name), &self.second);
         let named = match self.named {
             Named::First => first.clone(),
             Named::Second => second.clone(),
@@ -93,7 +93,7 @@ impl Case {
 #[test]
 fn every_refusal_has_its_sentence() {
     for case in cases() {
-        let (first, second, named) = case.files();
+        let (first, second, named) = case.files("refused");
         let mut expected = format!("{named}: {}\n", case.sentence);
         if !case.hint.is_empty() {
             expected += &format!("{named}: look at: {}\n", case.hint);
@@ -109,7 +109,7 @@ fn every_refusal_has_its_sentence() {
 #[test]
 fn the_verb_shows_where() {
     for case in cases() {
-        let (first, second, named) = case.files();
+        let (first, second, named) = case.files("shown");
         let output = desk(&[&["load", &first, "--with", &second], case.options].concat());
         let shown = text(&output.stdout);
         let joined = shown.replace("\n    ", " ").replace("\n  ", " ");

@@ -32,18 +32,53 @@ fn with_map(entries: &[u32]) -> Vec<u8> {
 
 #[test]
 fn what_is_wrong_is_said() {
-    let entries = [0x8000_0003, 0xC000_0002, 0xC000_0000, 0x8500_0001, 0x8000_0008, 0, 0, 0x4000_0001, 0x8000_0003];
+    let entries = [
+        0x8000_0003,
+        0xC000_0002,
+        0xC000_0000,
+        0x8500_0001,
+        0x8000_0008,
+        0,
+        0,
+        0x4000_0001,
+        0x8000_0003,
+        0xBF00_0001,
+        0x9000_0001,
+        0xA000_0008,
+        0x2000_0004,
+    ];
     let file = written("wrong.bin", &with_map(&entries));
     let (out, _) = said(&["map", &file]);
     for words in [
         "0       000h to 1FFh    3      600h to 7FFh    read, run         also its page 8",
         "CAREFUL: it may write the map of blockA",
         "CAREFUL: it may write the system block and the control block of blockA",
-        "damaged: bits 29 to 24 must be 0, the entry at 40Ch is 85000001h: alarm 10",
+        "damaged: bits 28 to 24 must be 0, the entry at 40Ch is 85000001h: alarm 10",
+        "damaged: bits 28 to 24 must be 0, the entry at 424h is BF000001h: alarm 10",
+        "damaged: bits 28 to 24 must be 0, the entry at 428h is 90000001h: alarm 10",
+        "damaged: frame 8 is past the memory's 8 (entry at 42Ch): alarm 10",
+        "absent, though its entry at 430h is 20000004h: alarm 9",
         "damaged: frame 8 is past the memory's 8 (entry at 410h): alarm 10",
         "5 to 6  A00h to DFFh    -      -               nothing           absent: alarm 9",
         "absent, though its entry at 41Ch is 40000001h: alarm 9",
-        "from 1200h on: past the map, alarm 8",
+        "from 1A00h on: past the map, alarm 8",
+    ] {
+        assert!(out.contains(words), "'{words}' is not in\n{out}");
+    }
+}
+
+/// Pages in a row are one row of the table only where their rights are the same.
+#[test]
+fn rights_are_told() {
+    let entries = [0x8000_0003, 0xA000_0004, 0xA000_0005, 0xE000_0006, 0xC000_0007, 0xE000_0002];
+    let file = written("rights.bin", &with_map(&entries));
+    let (out, _) = said(&["map", &file]);
+    for words in [
+        "  0       000h to 1FFh  3       600h to 7FFh    read, run\n",
+        "  1 to 2  200h to 5FFh  4 to 5  800h to BFFh    read\n",
+        "  3       600h to 7FFh  6       C00h to DFFh    read, write\n",
+        "  4       800h to 9FFh  7       E00h to FFFh    read, write, run\n",
+        "  5       A00h to BFFh  2       400h to 5FFh    read, write       CAREFUL: it may write the map of blockA\n",
     ] {
         assert!(out.contains(words), "'{words}' is not in\n{out}");
     }

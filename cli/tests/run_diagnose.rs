@@ -3,6 +3,7 @@
 mod support;
 
 use desk::atlas;
+use desk::decode::Trouble;
 use desk::diagnose::{self, Finding};
 use desk::machine::Machine;
 use midesk::{numbers, Desk, Event, Mark};
@@ -46,7 +47,7 @@ fn alarms_in_kernel_mode() {
 #[test]
 fn stops_of_random_images() {
     let mut random = Random(5);
-    let (mut kernel, mut user) = (0, 0);
+    let (mut kernel, mut user, mut fetches) = (0, 0, 0);
     for _ in 0..20_000 {
         let Ok(mut machine) = Machine::fresh(images::random(&mut random)) else { continue };
         let _ = machine.desk.run(&mut machine.memory, 200);
@@ -56,6 +57,11 @@ fn stops_of_random_images() {
                 user += 1;
                 let found = diagnose::of(&machine.desk, &machine.memory);
                 assert_eq!(found, entered(&machine), "{:?}", machine.desk);
+                if let Some(Finding::Cause(2, address)) = found {
+                    fetches += 1;
+                    let met = machine.command_at(machine.desk.register(15));
+                    assert_eq!(met, Err(Trouble::NoFetch(address)), "{:?}", machine.desk);
+                }
             }
             Mark::Stopped(number @ 8..=15) => {
                 kernel += 1;
@@ -69,6 +75,7 @@ fn stops_of_random_images() {
         }
     }
     assert!(kernel > 1000 && user > 1000, "{kernel} stops in kernel mode, {user} stops 16");
+    assert!(fetches > 20, "{fetches} by alarm 21");
 }
 
 fn reaches(machine: &Machine, frame: u32) -> bool {
@@ -127,6 +134,24 @@ fn alarms_of_a_program_in_words() {
             "cause 11: alarm 11, a write to a page without the right to write, address 204h (page 1)",
             "page 1 is frame 4, which may only be read, in map m (entry at 404h: 80000004h)",
         ),
+        (
+            "MOVE W R0,204h",
+            "FRAME 4, READ, NO FETCH",
+            "cause 11: alarm 11, a write to a page without the right to write, address 204h (page 1)",
+            "page 1 is frame 4, which may only be read, in map m (entry at 404h: A0000004h)",
+        ),
+        (
+            "MOVE W 200h,R0",
+            "WORD A4000004h",
+            "cause 10: alarm 10, a damaged map entry, address 200h (page 1)",
+            "page 1 is damaged in map m: bits 28 to 24 must be 0 (entry at 404h: A4000004h)",
+        ),
+        (
+            "MOVE W 200h,R0",
+            "FRAME 9, READ, NO FETCH",
+            "cause 10: alarm 10, a damaged map entry, address 200h (page 1)",
+            "page 1 is damaged in map m: it names frame 9, and the memory has 5 (entry at 404h)",
+        ),
         ("DD B FFh", "ABSENT", "cause 12: alarm 12, an unknown command byte, FFh", "no command has the byte FFh"),
         (
             "HALT",
@@ -152,6 +177,67 @@ fn alarms_of_a_program_in_words() {
         for words in [cause, look, "command: program block at go (0): ", "stop 16: the system block's entry for cause"]
         {
             assert!(joined.contains(words), "{program}: '{words}' is not in\n{joined}");
+        }
+    }
+}
+
+/// A program without an entry for alarm 21 whose page 0 has commands, pages 1 and 2 none; run: the end in words, unfolded.
+fn without_commands(page: &str, program: &str) -> String {
+    let source = format!(
+        "        SEG 0\n        SYSTEM BLOCK\n        ON SYSTEM CALL TO start\n        SEG 100h\nblock:  CONTROL BLOCK START go, MAP m\n\
+         \x20       SEG 200h\nstart:  RESUME block\n        SEG 400h\nm:      MAP\n        PAGE 0: FRAME OF go, {page}\n\
+         \x20       PAGE 1: FRAME 4, READ, NO FETCH\n        PAGE 2: FRAME 5, WRITE, NO FETCH\n\
+         \x20       SEG 600h AT 0\ngo:     {program}\n        SEG 7FFh AT 1FFh\nlast:   DD B 70h\n        MEMORY C00h\n"
+    );
+    let file = written("without_commands.mi", source.as_bytes());
+    let (out, status) = said(&["run", &file]);
+    assert_eq!(status, 16, "{out}");
+    out.split("\n\n").next().expect("words").replace("\n    ", " ")
+}
+
+/// A fetch from a page without commands: which byte, which page and entry, what is allowed there, and where the desk came from.
+#[test]
+fn a_fetch_from_a_page_without_commands_is_told() {
+    let headline = "alarm 21, and the system block has no valid kernel status for it";
+    let missing = "stop 16: the system block's entry for cause 2, at 10h, has the status 00000000h,";
+    let cases = [
+        (
+            ("READ", "JUMP 2A0h"),
+            "cause 2: alarm 21, a fetch from a page without commands, address 2A0h (page 1)",
+            "command: program block at last+161 (2A0h): (cannot be fetched: 2A0h)",
+            "address: 2A0h is from R15, where the next command is fetched; only page 0 (0 to 1FFh) may be run",
+            "map: page 1 is frame 4, without the right to fetch, in map m (entry at 404h: A0000004h); reading it is allowed",
+            "came from: program block at go (0): JUMP 2A0h (line 14)",
+        ),
+        (
+            ("READ", "MOVE W I 400h,R15"),
+            "cause 2: alarm 21, a fetch from a page without commands, address 400h (page 2)",
+            "command: program block at 400h: (cannot be fetched: 400h)",
+            "address: 400h is from R15, where the next command is fetched; only page 0 (0 to 1FFh) may be run",
+            "map: page 2 is frame 5, without the right to fetch, in map m (entry at 408h: E0000005h); reading and writing it are allowed",
+            "came from: program block at go (0): MOVE W I 400h,R15 (line 14)",
+        ),
+        (
+            ("READ", "JUMP last"),
+            "cause 2: alarm 21, a fetch from a page without commands, address 200h (page 1)",
+            "command: program block at last (1FFh): (cannot be fetched: 200h) (line 16)",
+            "address: 200h is from the bytes of the command at R15, 1FFh; it is the first byte after page 0 (0 to 1FFh), which may be run",
+            "map: page 1 is frame 4, without the right to fetch, in map m (entry at 404h: A0000004h); reading it is allowed",
+            "came from: program block at go (0): JUMP last (line 14)",
+        ),
+        (
+            ("WRITE, NO FETCH", "CLEAR W R0"),
+            "cause 2: alarm 21, a fetch from a page without commands, address 0 (page 0)",
+            "command: program block at go (0): (cannot be fetched: 0) (line 14)",
+            "address: 0 is from R15, where the next command is fetched; no page may be run",
+            "map: page 0 is frame 3, without the right to fetch, in map m (entry at 400h: E0000003h); reading and writing it are allowed",
+            "came from: the kernel at start (200h): RESUME block (line 7)",
+        ),
+    ];
+    for ((page, program), cause, command, address, map, from) in cases {
+        let out = without_commands(page, program);
+        for words in [headline, cause, command, address, map, missing, from] {
+            assert!(out.contains(words), "{program}: '{words}' is not in\n{out}");
         }
     }
 }

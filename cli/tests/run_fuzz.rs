@@ -31,7 +31,7 @@ fn plan(random: &mut Random) -> Plan {
     let place = Place { address: random.below(0x800) as u32, mode: None };
     let until = match random.below(4) {
         0 => Some(Until::Entry(None)),
-        1 => Some(Until::Entry(Some(8 + random.below(8) as u32))),
+        1 => Some(Until::Entry(Some(*random.pick(&[2, 8, 9, 10, 11, 12, 13, 14, 15])))),
         2 => Some(Until::Place(place)),
         _ => None,
     };

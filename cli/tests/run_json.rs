@@ -101,6 +101,23 @@ fn every_line_is_an_object_with_the_documented_fields() {
     }
 }
 
+/// Alarm 21 is told by its cause, 2, with the byte's address, and by its own number in words.
+#[test]
+fn alarm_21_in_json() {
+    let (out, _) = said(&["run", &example("no_fetch"), "--trace", "--json"]);
+    let entries: Vec<&str> = out.lines().filter(|line| line.contains(r#""event":"entry","number":2,"#)).collect();
+    assert_eq!(entries.len(), 2, "{out}");
+    for (entry, address, argument) in [(entries[0], 0x206, 0x206), (entries[1], 0x1FF, 0x200)] {
+        for words in [
+            format!(r#""address":{address},"command":null,"bytes":null,"#),
+            format!(r#""cause":2,"argument":{argument},"words":"alarm 21, a fetch from a page without commands, "#),
+            r#""registers":[],"memory":[]"#.to_string(),
+        ] {
+            assert!(entry.contains(&words), "'{words}' is not in\n{entry}");
+        }
+    }
+}
+
 /// The causes of stops by number, requests not made, and errors as objects.
 #[test]
 fn stops_requests_and_errors_have_their_numbers() {

@@ -27,6 +27,12 @@ fn limits_and_until() {
     assert_eq!((status, out.lines().next()), (125, Some("held after 8 steps: at a kernel entry of cause 11")));
     let (out, status) = said(&["run", &example, "--until", "entry"]);
     assert_eq!((status, out.lines().next()), (125, Some("held after 2 steps: at a kernel entry")));
+    let (out, status) = said(&["run", &self::example("no_fetch"), "--until", "entry:2"]);
+    assert_eq!((status, out.lines().next()), (125, Some("held after 6 steps: at a kernel entry of cause 2")));
+    let words =
+        "last kernel entry: step 6, cause 2: alarm 21, a fetch from a page without commands, address 206h (page 1), \
+        in program block at lane (206h): (cannot be fetched: 206h) (line 81)\n";
+    assert!(out.replace("\n    ", " ").contains(words), "{out}");
     let (out, _) = said(&["run", &example, "--until", "finish"]);
     assert_eq!(out.lines().next(), Some("held after 13 steps: before the command at finish (249h)"));
     let (out, _) = said(&["run", &example, "--until", "14h"]);
@@ -89,7 +95,7 @@ fn arguments_that_do_not_fit() {
         (&["--request", "16@1"], "--request has the level 16, and levels are 1 to 15"),
         (&["--request", "5@0"], "--request counts steps from 1"),
         (&["--until", "nowhere"], "'nowhere' is neither `entry` nor an address: one is a number such as 410h or a name of the file such as loop"),
-        (&["--until", "entry:7"], "'entry:7' names no cause: 1, 8 to 15 or 17 to 31"),
+        (&["--until", "entry:7"], "'entry:7' names no cause: 1, 2, 8 to 15 or 17 to 31"),
         (&["--dump", "x,y"], "--dump x,y: the count is no number such as 80"),
         (&["--dump", "A00,8"], "--dump A00,8: 'A00' is no address: a hexadecimal number is written with h, A00h"),
         (&["--steps="], "--steps needs a value, N"),
@@ -126,8 +132,13 @@ fn help_without_arguments() {
     assert!(status == 0 && overview.contains("desk run FILE"));
     assert_eq!(said(&["run", "--help"]), said(&["help", "run"]));
     assert_eq!(said(&["--help"]).0, overview);
-    assert_eq!(said(&["--version"]), ("desk 2.1.0, over libmidesk 2.1.0\n".to_string(), 0));
+    assert_eq!(said(&["--version"]), ("desk 3.0.0, over libmidesk 3.0.0\n".to_string(), 0));
     assert!(said(&["help", "stops"]).0.contains("17 to 31"));
+    let lines = |topic: &str| said(&["help", topic]).0.split_whitespace().collect::<Vec<_>>().join(" ");
+    assert!(lines("stops").contains("2 cause: alarm 21") && lines("stops").contains("21 alarm: a byte of a command"));
+    assert!(lines("memory").contains("20000000h no commands may be fetched from it"));
+    assert!(lines("memory").contains("1F000000h these bits must be 0"));
+    assert!(lines("asm").contains("NO FETCH behind READ or WRITE") && lines("asm").contains("8 to 15 or 21"));
     let (sentence, status) = refused(&["help", "fly"]);
     assert!(status == 64 && sentence.contains("there is no verb 'fly'"), "{sentence}");
 }

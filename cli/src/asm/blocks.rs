@@ -5,14 +5,12 @@ use super::errors::{fault, Errors, Fault};
 use super::fields;
 use super::layout::{Layout, Position};
 use super::sizes;
-use super::syntax::{CauseKind, Entry, Expression, Field, FieldName, Frame, Page, PageContent};
+use super::syntax::{Entry, Expression, Field, FieldName, Frame, Page, PageContent};
 use crate::image::LARGEST;
-use crate::view::{self, Damage};
+use crate::view::{self, Damage, Rights};
 
 const KERNEL: u32 = 0x8000_0000;
-const PRESENT: u32 = 0x8000_0000;
-const WRITABLE: u32 = 0x4000_0000;
-const LAST_FRAME: u32 = 0x00FF_FFFF;
+const LAST_FRAME: u32 = view::FRAME;
 
 fn put(bytes: &mut [u8], at: u32, word: u32) {
     if let Some(room) = bytes.get_mut(at as usize..at as usize + 4) {
@@ -38,12 +36,10 @@ pub fn system_block(context: &Context, entries: &[Entry], errors: &mut Errors) -
 
 /// Cause, R15 and status.
 fn entry(context: &Context, entry: &Entry) -> Result<(u32, u32, u32), Fault> {
-    let (what, from, to, first) = match entry.kind {
-        CauseKind::SystemCall | CauseKind::Cause => ("a cause", 0, 31, 0),
-        CauseKind::Alarm => ("an alarm", 8, 15, 0),
-        CauseKind::Interrupt => ("a level", 1, 15, 16),
+    let given = context.symbols.value(&entry.cause, context.position.segment)?;
+    let Some(cause) = u32::try_from(given.number).ok().and_then(|number| entry.kind.cause(number)) else {
+        return fault(given.column, format!("expected {}, found {}", entry.kind.numbers(), given.number));
     };
-    let cause = first + context.between(&entry.cause, what, from, to)?;
     let mut status = match &entry.status {
         Some(status) => context.word(status)?,
         None => KERNEL,
@@ -134,10 +130,14 @@ fn entry_word(context: &Context, content: &PageContent) -> Result<u32, Fault> {
         PageContent::Word(word) => context.word(word)?,
         PageContent::Absent(None) => 0,
         PageContent::Absent(Some(frame)) => self::frame(context, frame)?,
-        PageContent::Frame { frame, write } => {
-            PRESENT | if *write { WRITABLE } else { 0 } | self::frame(context, frame)?
-        }
+        PageContent::Frame { frame, rights } => view::PRESENT | right_bits(*rights) | self::frame(context, frame)?,
     })
+}
+
+fn right_bits(rights: Rights) -> u32 {
+    let write = if rights.write { view::WRITABLE } else { 0 };
+    let fetch = if rights.fetch { 0 } else { view::NO_FETCH };
+    write | fetch
 }
 
 fn frame(context: &Context, frame: &Frame) -> Result<u32, Fault> {

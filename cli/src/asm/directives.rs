@@ -5,6 +5,7 @@ use super::data;
 use super::errors::{fault, Fault};
 use super::syntax::{CauseKind, Entry, Expression, Field, FieldName, Frame, Item, Kind, Page, PageContent, Term};
 use crate::table::Size;
+use crate::view::Rights;
 
 /// A directive, if the next lexemes begin one. ON and PAGE are lines of a block before them and stand apart.
 pub fn directive(cursor: &mut Cursor) -> Option<Result<Kind, Fault>> {
@@ -137,7 +138,7 @@ fn map(cursor: &mut Cursor) -> Result<Kind, Fault> {
     Ok(Kind::Map { length, pages: Vec::new() })
 }
 
-/// `PAGE p: FRAME f, READ`, and what else an entry may be.
+/// `PAGE p: FRAME f, READ, NO FETCH`, and what else an entry may be.
 pub fn page(cursor: &mut Cursor, line: usize) -> Result<Page, Fault> {
     cursor.need_word("PAGE")?;
     let first = cursor.expression()?;
@@ -163,13 +164,28 @@ fn page_content(cursor: &mut Cursor) -> Result<PageContent, Fault> {
     if !cursor.take_mark(',') {
         return cursor.expected("', READ' or ', WRITE'");
     }
+    Ok(PageContent::Frame { frame, rights: rights(cursor)? })
+}
+
+/// READ or WRITE, and NO FETCH.
+fn rights(cursor: &mut Cursor) -> Result<Rights, Fault> {
     let write = match cursor.peek_word() {
         Some("READ") => false,
         Some("WRITE") => true,
         _ => return cursor.expected("READ or WRITE"),
     };
     cursor.advance();
-    Ok(PageContent::Frame { frame, write })
+    if cursor.is_done() {
+        return Ok(Rights { write, fetch: true });
+    }
+    if !cursor.take_mark(',') {
+        return cursor.expected("', NO FETCH' or the end of the line");
+    }
+    if !cursor.take_word("NO") {
+        return cursor.expected("NO FETCH");
+    }
+    cursor.need_word("FETCH")?;
+    Ok(Rights { write, fetch: false })
 }
 
 fn frame(cursor: &mut Cursor) -> Result<Frame, Fault> {

@@ -4,7 +4,7 @@ use super::errors::{Errors, Fault};
 use super::fields;
 use super::layout::{Layout, Position};
 use super::sizes;
-use super::syntax::{CauseKind, Datum, Entry, Kind, Statement};
+use super::syntax::{Datum, Entry, Expression, Kind, Statement};
 use super::{blocks, columns, parts};
 use crate::image::{self, Complaint, Image, Program, SourceLine};
 use crate::names::Names;
@@ -152,14 +152,11 @@ fn lines(source: &str, statements: &[Statement], layout: &Layout) -> (Vec<Source
 
 /// The lines ON and PAGE of a block, each with its distance from the block's start.
 pub fn inner_lines(kind: &Kind, layout: &Layout, segment: usize) -> Vec<(u32, usize)> {
-    let number = |expression| layout.symbols.word(expression, segment).unwrap_or(0);
+    let number = |expression: &Expression| layout.symbols.word(expression, segment).unwrap_or(0);
     match kind {
         Kind::SystemBlock(entries) => {
-            let first = |entry: &Entry| if entry.kind == CauseKind::Interrupt { 16 } else { 0 };
-            entries
-                .iter()
-                .map(|entry| (number(&entry.cause).saturating_add(first(entry)).saturating_mul(8), entry.line))
-                .collect()
+            let cause = |entry: &Entry| entry.kind.cause(number(&entry.cause)).unwrap_or(0);
+            entries.iter().map(|entry| (8 * cause(entry), entry.line)).collect()
         }
         Kind::Map { pages, .. } => {
             pages.iter().map(|page| (number(&page.first).saturating_mul(4), page.line)).collect()

@@ -1,6 +1,8 @@
 //! A source as the parser leaves it.
 
 use crate::table::{Command, Size};
+use crate::view::Rights;
+use crate::words;
 
 /// A sum of numbers and names.
 #[derive(Clone, PartialEq, Eq, Debug)]
@@ -51,8 +53,8 @@ pub enum Datum {
 #[derive(Clone, PartialEq, Eq, Debug)]
 pub struct Entry {
     pub line: usize,
+    /// The number that is given: of the cause itself, or of the kind.
     pub cause: Expression,
-    /// What the cause is counted from, and the numbers that it may have.
     pub kind: CauseKind,
     pub to: Expression,
     pub level: Option<Expression>,
@@ -65,6 +67,26 @@ pub enum CauseKind {
     Alarm,
     Interrupt,
     Cause,
+}
+
+impl CauseKind {
+    /// The cause of a number of this kind, if it is one.
+    pub fn cause(self, number: u32) -> Option<u32> {
+        match self {
+            CauseKind::SystemCall | CauseKind::Cause => (number <= 31).then_some(number),
+            CauseKind::Alarm => words::cause_of_alarm(number),
+            CauseKind::Interrupt => (1..=15).contains(&number).then(|| 16 + number),
+        }
+    }
+
+    /// The numbers of this kind, in words.
+    pub fn numbers(self) -> &'static str {
+        match self {
+            CauseKind::SystemCall | CauseKind::Cause => "a cause from 0 to 31",
+            CauseKind::Alarm => "an alarm from 8 to 15, or 21",
+            CauseKind::Interrupt => "a level from 1 to 15",
+        }
+    }
 }
 
 /// A field of a control block.
@@ -96,7 +118,7 @@ pub struct Page {
 
 #[derive(Clone, PartialEq, Eq, Debug)]
 pub enum PageContent {
-    Frame { frame: Frame, write: bool },
+    Frame { frame: Frame, rights: Rights },
     Absent(Option<Frame>),
     Word(Expression),
 }

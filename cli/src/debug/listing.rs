@@ -100,8 +100,10 @@ impl View<'_> {
         self.real(at).and_then(|real| self.machine.known.line(real))
     }
 
+    /// Whether a command begins there. What cannot be fetched is data, but for the place at which the desk goes on.
     fn is_command(&self, at: u32) -> bool {
-        self.is_next(at) || self.real(at).is_some_and(|real| self.code.contains(&real))
+        let can_be_fetched = || effect::fetched_byte(self.desk, &self.machine.memory, at).is_ok();
+        self.is_next(at) || self.real(at).is_some_and(|real| self.code.contains(&real)) && can_be_fetched()
     }
 
     /// A line of the list, and where the next one starts.

@@ -8,6 +8,7 @@ use crate::names::Names;
 use crate::notation::{self, hexadecimal};
 use crate::table::Size;
 use crate::view;
+use crate::words;
 
 const KERNEL: u32 = 0x8000_0000;
 const UNDEFINED: u32 = 0x7FFF_FF00;
@@ -25,7 +26,7 @@ fn entries(memory: &[u8], system: u32) -> Vec<(u32, u32, u32)> {
 
 /// Where the kernel goes on for each cause that has a valid entry.
 pub fn kernel_places(memory: &[u8], system: u32) -> Vec<u32> {
-    let used = |cause| matches!(cause, 1 | 8..=15 | 17..=31);
+    let used = |cause| words::causes().any(|used| used == cause);
     let valid = |(cause, r15, status): (u32, u32, u32)| (used(cause) && is_kernel_status(status)).then_some(r15);
     entries(memory, system).into_iter().filter_map(valid).collect()
 }
@@ -33,10 +34,10 @@ pub fn kernel_places(memory: &[u8], system: u32) -> Vec<u32> {
 pub fn system_block(memory: &[u8], system: u32, names: &Names) -> Vec<Line> {
     let mut lines = vec![Line { real: Some(system), text: "SYSTEM BLOCK".to_string(), ..Line::default() }];
     for (cause, r15, status) in entries(memory, system) {
-        let on = match cause {
-            1 => "SYSTEM CALL".to_string(),
-            8..=15 => format!("ALARM {cause}"),
-            17..=31 => format!("INTERRUPT {}", cause - 16),
+        let on = match (cause, words::alarm_of_cause(cause)) {
+            (_, Some(alarm)) => format!("ALARM {alarm}"),
+            (1, _) => "SYSTEM CALL".to_string(),
+            (17..=31, _) => format!("INTERRUPT {}", cause - 16),
             _ => format!("CAUSE {cause}"),
         };
         let level = (status & 0xF0) >> 4;
@@ -119,15 +120,19 @@ pub fn map(memory: &[u8], base: u32, length: u32) -> Vec<Line> {
 
 /// A present entry without a forbidden bit.
 fn is_frame(entry: u32) -> bool {
-    entry & 0x8000_0000 != 0 && entry & 0x3F00_0000 == 0
+    entry & view::PRESENT != 0 && entry & view::FORBIDDEN == 0
 }
 
 fn content(entry: u32) -> String {
-    let frame = entry & 0x00FF_FFFF;
+    let frame = entry & view::FRAME;
     match entry {
         0 => "ABSENT".to_string(),
-        1..=0x00FF_FFFF => format!("ABSENT, FRAME {frame}"),
-        _ if is_frame(entry) => format!("FRAME {frame}, {}", if entry & 0x4000_0000 != 0 { "WRITE" } else { "READ" }),
+        1..=view::FRAME => format!("ABSENT, FRAME {frame}"),
+        _ if is_frame(entry) => {
+            let right = if entry & view::WRITABLE != 0 { "WRITE" } else { "READ" };
+            let fetch = if entry & view::NO_FETCH != 0 { ", NO FETCH" } else { "" };
+            format!("FRAME {frame}, {right}{fetch}")
+        }
         _ => format!("WORD {}", hexadecimal(entry)),
     }
 }
@@ -136,9 +141,9 @@ fn content(entry: u32) -> String {
 fn damage(memory: &[u8], page: u32, last: u32, entry: u32) -> String {
     let last_entry = if is_frame(entry) { entry.wrapping_add(last - page) } else { entry };
     match view::entry_of(memory, page, last_entry) {
-        Err(view::Damage::ForbiddenBits { .. }) => "damaged: bits 29 to 24 are not 0 (alarm 10)".to_string(),
+        Err(view::Damage::ForbiddenBits { .. }) => "damaged: bits 28 to 24 are not 0 (alarm 10)".to_string(),
         Err(view::Damage::PastMemory { .. }) => "damaged: the frame is past the memory (alarm 10)".to_string(),
-        Err(view::Damage::Absent { .. }) if entry > 0x00FF_FFFF => "absent".to_string(),
+        Err(view::Damage::Absent { .. }) if entry > view::FRAME => "absent".to_string(),
         _ => String::new(),
     }
 }

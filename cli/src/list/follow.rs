@@ -2,7 +2,7 @@
 //! control blocks.
 
 use super::ground::Ground;
-use crate::decode::{decode, Decoded, Trouble};
+use crate::decode::{self, Decoded, Trouble};
 use crate::forms;
 use crate::image::{Image, Program};
 use crate::notation;
@@ -56,6 +56,18 @@ pub fn real(image: &Image, programs: &[Program], space: Space, address: u32) -> 
     }
 }
 
+/// The byte at an address of a space, fetched for a command.
+pub fn fetched_byte(image: &Image, programs: &[Program], space: Space, address: u32) -> Result<u8, Trouble> {
+    let real = match space {
+        Space::Kernel => address,
+        Space::Program(place) => {
+            let program = programs.get(place).ok_or(Trouble::Unreadable(address))?;
+            view::real_to_fetch(&image.memory, program.map_base, program.map_length, address)?
+        }
+    };
+    view::byte(&image.memory, real).ok_or(Trouble::Unreadable(address))
+}
+
 impl Code {
     /// Follows the code of a space from an address on.
     pub fn follow(&mut self, image: &Image, programs: &[Program], ground: &mut Ground, space: Space, from: u32) {
@@ -65,8 +77,7 @@ impl Code {
                 continue;
             }
             let Some(start) = real(image, programs, space, address) else { continue };
-            let fetch = |at| real(image, programs, space, at).and_then(|at| view::byte(&image.memory, at));
-            let decoded = match decode(&fetch, address) {
+            let decoded = match decode::of_fetched(&|at| fetched_byte(image, programs, space, at), address) {
                 Ok(decoded) if space != Space::Kernel && decoded.command.byte == HALT => continue,
                 Ok(decoded) => decoded,
                 Err(trouble) => {

@@ -73,10 +73,10 @@ impl Ground {
         real + free as u32
     }
 
-    /// Shows each frame that programs alone use as a page: of the first that may write it, else of the first that reaches
-    /// it.
+    /// Shows each frame that programs alone use as a page: of the first that may run and write it, else of the first that
+    /// may run it, else write it, else of the first that reaches it.
     pub fn show(&mut self, image: &Image, programs: &[Program]) {
-        for wanted in [true, false] {
+        for wanted in [(true, true), (true, false), (false, true), (false, false)] {
             for (place, program) in programs.iter().enumerate() {
                 for page in 0..program.map_length.min(MOST_PAGES) {
                     let Ok((real, rights)) =
@@ -85,7 +85,7 @@ impl Ground {
                         continue;
                     };
                     let frame = real / 512;
-                    if rights.write == wanted && !self.kernel.contains(&frame) {
+                    if (rights.fetch, rights.write) == wanted && !self.kernel.contains(&frame) {
                         self.show_frame(Shown { program: place, page, frame });
                     }
                 }

@@ -148,7 +148,8 @@ fn program_code(image: &Image, programs: &[Program], ground: &mut Ground, trial:
         }
         for line in image.lines.iter().filter(|line| line.is_command) {
             let Some(at) = line.at else { continue };
-            if follow::real(image, programs, space, at) == Some(line.address) {
+            let is_its = follow::real(image, programs, space, at) == Some(line.address);
+            if is_its && follow::fetched_byte(image, programs, space, at).is_ok() {
                 code.follow(image, programs, ground, space, at);
             }
         }

@@ -2,7 +2,7 @@
 
 use super::ground::Ground;
 use crate::image::{Image, Program};
-use crate::view;
+use crate::view::{self, Rights};
 
 /// Pages of one map that are looked at.
 const MOST_PAGES: u32 = 32_768;
@@ -12,7 +12,7 @@ const MOST_PAGES: u32 = 32_768;
 struct Reach {
     program: usize,
     page: u32,
-    write: bool,
+    rights: Rights,
 }
 
 /// Frames in a row that are shown as pages in a row, with the same rights of the same programs.
@@ -52,13 +52,12 @@ impl Pages {
         self.groups.get(real as usize / 512).copied().flatten()
     }
 
-    /// `frames 5 and 6: pages 2 and 3 of blockA (read and write)`.
+    /// `frames 5 and 6: pages 2 and 3 of blockA (read, write, run)`.
     pub fn heading(&self, group: Group, programs: &[Program]) -> String {
         let more = group.last - group.first;
         let reach = |reach: &Reach| {
             let name = programs.get(reach.program).map_or("", |program| program.name.as_str());
-            let may = if reach.write { "read and write" } else { "read" };
-            format!("{} of {name} ({may})", row("page", reach.page, more))
+            format!("{} of {name} ({})", row("page", reach.page, more), reach.rights.words())
         };
         let reaches = self.reaches.get(group.first as usize).map_or(&[][..], Vec::as_slice);
         let who: Vec<String> = reaches.iter().map(reach).collect();
@@ -83,7 +82,7 @@ fn reaches(image: &Image, programs: &[Program]) -> Vec<Vec<Reach>> {
             let leads = view::real(&image.memory, program.map_base, program.map_length, page * 512);
             let Ok((real, rights)) = leads else { continue };
             if let Some(reaches) = found.get_mut(real as usize / 512) {
-                reaches.push(Reach { program: place, page, write: rights.write });
+                reaches.push(Reach { program: place, page, rights });
             }
         }
     }

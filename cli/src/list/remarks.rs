@@ -25,6 +25,7 @@ pub fn of_source(image: &Image) -> BTreeMap<u32, String> {
 pub fn of_trouble(trouble: &Trouble) -> String {
     match trouble {
         Trouble::Unreadable(address) => format!("runs here, and the byte at {address:X}h cannot be read"),
+        Trouble::NoFetch(address) => format!("runs here, and the byte at {address:X}h cannot be fetched (alarm 21)"),
         Trouble::Unknown(byte) => format!("runs here, and {byte:02X}h is no command (alarm 12)"),
         Trouble::Form { place, .. } => {
             format!("runs here, and operand {place} breaks the rules of its form (alarm 14)")

@@ -8,7 +8,7 @@ use super::lines::Line;
 use super::pages::{Group, Pages};
 use super::{blocks, remarks, Block};
 use crate::asm::fields;
-use crate::decode::Decoded;
+use crate::decode::{Decoded, Trouble};
 use crate::forms;
 use crate::image::{Image, Program};
 use crate::lists;
@@ -227,10 +227,15 @@ impl Writer<'_> {
         let size = self.parts.labels.sizes.get(&at).copied();
         let zeros = data::zeros(bytes);
         if let Some(trouble) = self.parts.code.troubles.get(&at) {
-            let first = bytes.get(..1).unwrap_or(bytes);
-            let mut lines = data::rows(at, first, Some(Size::B));
-            if !self.remarks.contains_key(&at) {
-                lines.iter_mut().for_each(|line| line.remark = remarks::of_trouble(trouble));
+            let (count, size) = match trouble {
+                // What cannot be fetched is data, which stay together.
+                Trouble::NoFetch(_) if zeros == 0 => (data::before_zeros(at, bytes, size).max(1), size),
+                _ => (1, Some(Size::B)),
+            };
+            let first = bytes.get(..count).unwrap_or(bytes);
+            let mut lines = data::rows(at, first, size);
+            if let Some(line) = lines.first_mut().filter(|_| !self.remarks.contains_key(&at)) {
+                line.remark = remarks::of_trouble(trouble);
             }
             return self.put(at, first.len(), lines);
         }

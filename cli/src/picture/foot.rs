@@ -81,5 +81,7 @@ impl Drawing<'_> {
         self.svg.text(third + 34, y + 49, style, "commands; other bytes that are not zero");
         self.svg.path(&format!("M{},{} h6 l-3,5 z", second + 10, y + 66), INK, r#"stroke-width="2""#);
         self.svg.text(second + 34, y + 73, style, "start of the desk or of a program");
+        self.no_fetch(third + 13, y + 69, INK);
+        self.svg.text(third + 34, y + 73, style, "page without commands, not to be run");
     }
 }

@@ -8,6 +8,7 @@ use crate::atlas::{Mapped, Reach};
 use crate::blocks::{Kind, Thing};
 use crate::hints;
 use crate::notation::hexadecimal;
+use crate::view::Rights;
 use crate::words;
 
 /// Letters of a line in a frame, and lines of names.
@@ -138,8 +139,8 @@ impl Drawing<'_> {
         }
     }
 
-    /// The pages of a program that lead to the row's frames, in words.
-    fn cell_lines(&self, row: &Row, program: usize) -> Vec<(String, bool)> {
+    /// The pages of a program that lead to the row's frames, in words, and what the program may do there.
+    fn cell_lines(&self, row: &Row, program: usize) -> Vec<(String, Rights)> {
         let more = row.frames() - 1;
         let line = |reach: &Reach| {
             let from = hexadecimal(reach.page.wrapping_mul(512));
@@ -147,7 +148,7 @@ impl Drawing<'_> {
                 0 => format!("page {}, from {from}", reach.page),
                 _ => format!("pages {}-{}, from {from}", reach.page, reach.page.saturating_add(more)),
             };
-            (pages, reach.write)
+            (pages, reach.rights)
         };
         row.reaches.iter().filter(|reach| reach.program == program).map(line).take(3).collect()
     }
@@ -162,15 +163,23 @@ impl Drawing<'_> {
             return;
         }
         let each = (height - 8) / lines.len() as i64;
-        for (i, (pages, write)) in lines.iter().enumerate() {
+        for (i, (pages, rights)) in lines.iter().enumerate() {
             let place = Box { x, y: y + 4 + each * i as i64, width: COLUMN - 12, height: each - 2 };
-            let (fill, text) = if *write { (colour(program), PAPER) } else { (PAPER, INK) };
+            let (fill, text) = if rights.write { (colour(program), PAPER) } else { (PAPER, INK) };
             self.svg.rect(place, fill, colour(program), r#"stroke-width="2" rx="3""#);
-            let may = if *write { "read, write, run" } else { "read, run" };
             let middle = place.y + place.height / 2;
             self.svg.text(x + 8, middle - 2, Style::plain(12, text).bold(), &cut(pages, COLUMN - 20, 11));
-            self.svg.text(x + 8, middle + 12, Style::plain(11, text), may);
+            self.svg.text(x + 8, middle + 12, Style::plain(11, text), rights.words());
+            if !rights.fetch {
+                self.no_fetch(x + COLUMN - 32, middle + 8, text);
+            }
         }
+    }
+
+    /// The sign of a page without commands, a ring with a stroke through it.
+    pub fn no_fetch(&mut self, x: i64, y: i64, stroke: &str) {
+        let ring = format!("M{},{y} a6,6 0 1,0 12,0 a6,6 0 1,0 -12,0 M{},{} l8,-8", x - 6, x - 4, y + 4);
+        self.svg.path(&ring, stroke, r#"stroke-width="1.5""#);
     }
 
     /// What stands out in a row.
@@ -182,7 +191,7 @@ impl Drawing<'_> {
             lines.extend(self.sharers(row, true).map(|words| (words, small)));
             lines.extend(self.sharers(row, false).map(|words| (words, small)));
         }
-        if row.reaches.iter().any(|reach| reach.write) && !row.things.is_empty() {
+        if row.reaches.iter().any(|reach| reach.rights.write) && !row.things.is_empty() {
             let words = ["careful: a program may", "write a block or a map"];
             lines.extend(words.map(|words| (words.to_string(), small.bold())));
         }
@@ -198,7 +207,7 @@ impl Drawing<'_> {
 
     /// The programs that may write a row's frame, or those that may only read it.
     fn sharers(&self, row: &Row, write: bool) -> Option<String> {
-        let may = |program: usize| row.reaches.iter().any(|reach| reach.program == program && reach.write);
+        let may = |program: usize| row.reaches.iter().any(|reach| reach.program == program && reach.rights.write);
         let reaches = |program: usize| row.reaches.iter().any(|reach| reach.program == program);
         let wanted = |(place, _): &(usize, &Mapped)| reaches(*place) && may(*place) == write;
         let programs = self.atlas.programs.iter().enumerate().filter(wanted);

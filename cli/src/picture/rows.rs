@@ -100,7 +100,7 @@ fn continues(row: &Row, next: &Row, many: bool) -> bool {
     let frames = row.frames();
     let alike = |(before, after): (&Reach, &Reach)| {
         before.program == after.program
-            && before.write == after.write
+            && before.rights == after.rights
             && before.page.checked_add(frames) == Some(after.page)
     };
     plain(row)

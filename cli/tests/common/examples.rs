@@ -1,6 +1,6 @@
 //! The examples that are sources, by name.
 
-pub const EXAMPLES: [&str; 11] = [
+pub const EXAMPLES: [&str; 12] = [
     "division",
     "factorial",
     "fibonacci",
@@ -8,6 +8,7 @@ pub const EXAMPLES: [&str; 11] = [
     "lookup",
     "minimum",
     "minimum_cmp",
+    "no_fetch",
     "shift",
     "sum",
     "system_call",

@@ -21,10 +21,11 @@ pub fn random(random: &mut Random) -> Image {
     put(&mut memory, 0x148, 0x400);
     put(&mut memory, 0x14C, 1 + random.below(4) as u32);
     for page in 0..5 {
-        let rights = *random.pick(&[0x8000_0000, 0xC000_0000, 0xC000_0000, 0, 0x8100_0000]);
+        let rights = *random.pick(&[0x8000_0000, 0xC000_0000, 0xC000_0000, 0xA000_0000, 0xE000_0000, 0, 0x8100_0000]);
         put(&mut memory, 0x400 + 4 * page, rights | random.below(frames as u64 + 1) as u32);
     }
-    put(&mut memory, 0x400, 0x8000_0003);
+    let page = if random.below(16) == 0 { 0xA000_0003 } else { 0x8000_0003 };
+    put(&mut memory, 0x400, page);
     commands(random, &mut memory, 0x200, 0x3C0);
     commands(random, &mut memory, 0x600, 0x7C0);
     if random.below(2) == 0 {
