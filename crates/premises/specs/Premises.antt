@@ -65,9 +65,9 @@ pub record Met (calls : List Call) (place cause : ℕ) : Type 0 where
 abbrev pub MetByInterrupt : Type 0
 MetByInterrupt = Met (step ∷ step ∷ request 5 ∷ step ∷ []) 3 21
 
--- document 02, F-4, "the isolation of carriers is shown with the new bit": two commands, a request
--- that the status level holds back, a jump, and a step that is alarm 21, with cause 2. Its argument
--- is an address in a page without commands, where the first command wrote
+-- document 02, F-4, isolation "with the new bit": two commands, a request that the status level
+-- holds back, a jump, and a step that is alarm 21, with cause 2. Its argument is an address in a
+-- page without commands, where the first command wrote
 pub record MetByAlarm21 : Type 0 where
   pub met : Met (step ∷ step ∷ request 5 ∷ step ∷ step ∷ []) 4 2
   pub address : VirtualAddress
