@@ -59,8 +59,7 @@ fn look_mapped(mem: &[u8], map: Map, x: VirtualAddress, why: Access) -> Lookup
     if e < 0x8000_0000 {
         return Lookup::Alarm(x, Alarm::Absent);
     }
-    // One test finds 10 and, for a fetch, 21; only behind it are they told apart. It is no branch,
-    // by `|`, since a branch here costs speed.
+    // One test finds 10 and, for a fetch, 21; only behind it are they told apart.
     let f = e % 0x100_0000;
     let bits = closed_bits(why, e);
     let past = mem.len() / 512 <= f as usize;

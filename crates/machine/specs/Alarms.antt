@@ -1,10 +1,8 @@
 -- Document 01, "Numbers 1 to 16", 8 to 15, and document 02, F-4, 21: the alarms, each with its
 -- number and its cause; a part of a command gives a value, or an alarm with its argument.
 use Prim.Native.Nat.{ℕ}
-use lib.Dec.{eqb}
 use Rattle.machine.specs.declared.Alarm.{Alarm}
 use Rattle.machine.specs.declared.Alarm.the-variants as alarms
-use Rattle.machine.specs.Words.{pick}
 
 -- an alarm's number, and the cause of the kernel entry that it makes, which is the entry of the
 -- system block too
@@ -43,11 +41,6 @@ alarmNumber a = alarmNumbers a .number
 
 abbrev pub alarmCause : Alarm → ℕ
 alarmCause a = alarmNumbers a .cause
-
--- by the code's count of the alarms: 8 to 15 as their numbers have it, then 16 for alarm 21 (no
--- stop 16)
-abbrev pub numbersByCount : ℕ → AlarmNumbers
-numbersByCount n = pick (eqb n 16) (alarmNumbers alarms.NoFetch) (itsOwnCause n)
 
 -- "Arguments: 8 to 11 the byte's address, 12 and 13 the command byte, 14 the operand's place from
 -- 1, 15 zero."; F-4, of 21: "argument the address". "For one byte 8 to 11 are tried in number

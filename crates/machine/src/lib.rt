@@ -1,7 +1,8 @@
 // The MI desk's types. What they mean is defined in specs/, in document 01's order.
+ghost use lib.Dec.{eqb};
 ghost use mathlib.Core.Path.{_≡_};
-ghost use Rattle.machine.specs.Words.{lengthOf};
-ghost use Rattle.machine.specs.Alarms.{alarmCause, alarmNumber, alarmNumbers, numbersByCount};
+ghost use Rattle.machine.specs.Words.{lengthOf, pick};
+ghost use Rattle.machine.specs.Alarms.{alarmCause, alarmNumber, alarmNumbers, itsOwnCause};
 ghost use Rattle.machine.specs.Calls.{refusalNumber, answerNumber, stepAnswerNumber};
 
 // The bytes of the system block and of the control block.
@@ -156,7 +157,7 @@ impl Alarm {
     // Its place in a count from 8 on: of 8 to 15 the number and the cause, of 21 it is 16. The
     // compiler makes a sum of a count without gaps, where the numbers themselves need a table.
     fn count(self) -> u32
-        ensures { λ r. ⌜ alarmNumbers self ≡ numbersByCount r ⌝ }
+        ensures { λ r. ⌜ alarmNumbers self ≡ pick (eqb r 16) (alarmNumbers Alarm.NoFetch) (itsOwnCause r) ⌝ }
     {
         match self {
             Alarm::Address => 8,
