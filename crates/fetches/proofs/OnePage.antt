@@ -11,10 +11,8 @@ use Rattle.machine.specs.Words.{Memory, byteAt, wordAt, wrap}
 use Rattle.machine.specs.Alarms.{got, alarm}
 use Rattle.machine.specs.Map.{viewBy, readFrom, readBytes}
 use Rattle.machine.specs.Operands.{fieldsAt}
-use Rattle.machine.proofs.Pages.{Alarms, read-alarm, Finds, found-page}
-use Rattle.words.specs.Values.{valueAt}
-use Rattle.words.proofs.Values.{one-byte-value, four-byte-value}
-use Rattle.reads.proofs.OnePage.{read-from, read-page}
+use Rattle.machine.proofs.Pages.{Alarms, read-alarm, Finds, read-from, read-page}
+use Rattle.machine.proofs.Bytes.{one-byte-value, four-byte-value}
 
 module _ {s : ℕ} {map : Map} {m : Memory} {x : VirtualAddress} where
   pub fields-page : {a : RealAddress} → Finds s map m x Fetch a → x .0 % 512 + 6 ≤ 512

@@ -10,6 +10,7 @@ ghost use Rattle.machine.specs.Map.{readBytes, viewBy};
 ghost use Rattle.machine.specs.Operands.{fieldsAt};
 use lookup::Lookup;
 use lookup::Neighbour;
+use lookup::Whole;
 use machine::Access;
 use machine::Alarm;
 use machine::Map;
@@ -97,18 +98,12 @@ fn fields_anew(mem: &[u8], status: u32, map: Map, x: VirtualAddress) -> OperandB
     ensures value { λ r. ⌜ operandBytesAs r ≡ fieldsAt (viewBy status map (now (mem .entry))) (x .0) ⌝ }
     ensures small { λ r. ⌜ PairOrAlarm r ⌝ }
 {
-    if x.0 % 512 <= 506 {
-        let s = lookup::look(mem, status, map, x, Access::Fetch);
-        match s {
-            Lookup::At(r) => {
-                return fields_at(mem, r);
-            }
-            Lookup::Alarm(_, k) => {
-                return OperandBytes::Alarm(x.0, k);
-            }
-        }
+    let s = lookup::look_whole(mem, status, map, x, 6, Access::Fetch);
+    match s {
+        Whole::At(r) => fields_at(mem, r),
+        Whole::Alarm(_, k) => OperandBytes::Alarm(x.0, k),
+        Whole::Apart => fields_bytewise(mem, status, map, x),
     }
-    fields_bytewise(mem, status, map, x)
 }
 
 // The six bytes of an operand, where they lie in the page of start, whose byte was fetched and lies

@@ -6,8 +6,6 @@ use Rattle.machine.specs.declared.Target.the-variants as target
 use Rattle.machine.specs.State.{Registers}
 use Rattle.machine.specs.Alarms.{OrAlarm, alarm, _>>=_}
 use Rattle.machine.specs.Operands.{virtual, immediate, register, memory, Operand, at}
-use Rattle.reads.specs.declared.Got.{Got}
-use Rattle.reads.specs.Answers.{gotAs}
 use Rattle.forms.specs.declared.Location.{Location}
 use Rattle.forms.specs.declared.Location.the-variants as location
 
@@ -31,7 +29,7 @@ SmallTarget target.Nowhere = Unit {0}
 SmallTarget (target.Register x) = x < 16
 SmallTarget (target.Memory a) = Unit {0}
 
--- a place behind the word w, over any registers
-pub record Behind (p : Location) (w : Got) (more : ℕ) : Type 0 where
-  pub same : (r : Registers) → locationAs p r ≡ gotAs w >>= (λ a. at (memory (virtual (a + more))) r)
+-- a place behind the word w that was read, over any registers
+pub record Behind (p : Location) (w : OrAlarm ℕ) (more : ℕ) : Type 0 where
+  pub same : (r : Registers) → locationAs p r ≡ w >>= (λ a. at (memory (virtual (a + more))) r)
   pub small : SmallLocation p

@@ -5,9 +5,10 @@ ghost use Prim.Native.Nat.{_*_, _<_};
 ghost use lib.Dec.{eqb};
 ghost use Rattle.forms.specs.Answers.{Behind, SmallLocation, locationAs};
 ghost use Rattle.lookup.specs.Answers.{Fits};
-ghost use Rattle.machine.specs.Map.{viewBy};
+ghost use Rattle.machine.specs.Map.{readBytes, viewBy};
 ghost use Rattle.machine.specs.Operands.{formed, virtual};
 ghost use Rattle.machine.specs.Words.{lengthOf, wrap};
+use machine::Access;
 use machine::Alarm;
 use machine::Map;
 use machine::Size;
@@ -40,13 +41,15 @@ fn scaled(a: u32, size: Size) -> u32
     }
 }
 
-// A place behind a word of memory.
-fn behind(w: Got, more: u32) -> Location
-    ensures { λ r. ⌜ Behind r w more ⌝ }
+// A place behind the word at an address: where it says, and more bytes further on.
+fn behind(mem: &[u8], status: u32, map: Map, a: VirtualAddress, more: u32) -> Location
+    requires { ⌜ Fits map (now mem) ⌝ }
+    ensures { λ r. ⌜ Behind r (readBytes (viewBy status map (now (mem .entry))) Access.Read 4 a) more ⌝ }
 {
+    let w = reads::read(mem, status, map, a, Size::W);
     match w {
-        Got::Value(a) => Location::Memory(VirtualAddress(words::plus(a, more))),
-        Got::Alarm(a, n) => Location::Alarm(a, n),
+        Got::Value(n) => Location::Memory(VirtualAddress(words::plus(n, more))),
+        Got::Alarm(x, k) => Location::Alarm(x, k),
     }
 }
 
@@ -107,27 +110,17 @@ pub fn by_form(
         4 => Location::Memory(VirtualAddress(words::plus(words::plus(z, rx), scaled(ry, size)))),
         5 => {
             if y == 0 {
-                let w = reads::read(
-                    mem,
-                    status,
-                    map,
-                    VirtualAddress(words::plus(z, rx)),
-                    Size::W,
-                );
-                return behind(w, 0);
+                return behind(mem, status, map, VirtualAddress(words::plus(z, rx)), 0);
             }
             Location::Alarm(place, Alarm::Operand)
         }
-        6 => {
-            let w = reads::read(
-                mem,
-                status,
-                map,
-                VirtualAddress(words::plus(z, rx)),
-                Size::W,
-            );
-            behind(w, scaled(ry, size))
-        }
+        6 => behind(
+            mem,
+            status,
+            map,
+            VirtualAddress(words::plus(z, rx)),
+            scaled(ry, size),
+        ),
         7 => {
             if can_step(x, y, z) {
                 let a = words::minus(rx, size.length());

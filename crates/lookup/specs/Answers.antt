@@ -1,5 +1,5 @@
 -- What a lookup says, and the bits that it asks for, in the terms of `machine`.
-use Prim.Native.Nat.{ℕ, _+_, _*_, _/_, _%_, _≤_}
+use Prim.Native.Nat.{ℕ, _+_, _*_, _/_, _%_, _<_, _≤_}
 use mathlib.Core.Path.{_≡_}
 use lib.ListN.{length}
 use Rattle.machine.specs.declared.RealAddress.{RealAddress}
@@ -9,9 +9,12 @@ use Rattle.machine.specs.declared.Access.the-variants.{Fetch, Read, Write}
 use Rattle.machine.specs.declared.Map.{Map}
 use Rattle.machine.specs.Words.{Memory}
 use Rattle.machine.specs.Alarms.{OrAlarm, got, alarm}
-use Rattle.machine.specs.Map.{forbiddenBits, Found, foundAt, viewBy}
+use Rattle.machine.specs.Map.{forbiddenBits, Found, foundAt, View, viewBy}
+use Rattle.machine.specs.OnePage.{InOnePage}
 use Rattle.lookup.specs.declared.Lookup.{Lookup}
 use Rattle.lookup.specs.declared.Lookup.the-variants as lookup
+use Rattle.lookup.specs.declared.Whole.{Whole}
+use Rattle.lookup.specs.declared.Whole.the-variants as whole
 use Rattle.lookup.specs.declared.Neighbour.{Neighbour}
 use Rattle.lookup.specs.declared.Neighbour.the-variants as neighbour
 
@@ -32,6 +35,13 @@ abbrev pub lookupAs : Memory → Lookup → OrAlarm Found
 lookupAs m (lookup.At a) = got (foundAt m a)
 lookupAs m (lookup.Alarm x k) = alarm k (x .0)
 
+-- n bytes from x on, through view v of memory m: where they lie in one page, what the lookup of the
+-- first says, which answers for all of them (`OnePage` of `machine`)
+abbrev pub WholeOf : View → Memory → VirtualAddress → ℕ → Access → Whole → Type 0
+WholeOf v m x n w (whole.At a) = InOnePage x n × (v x w ≡ got (foundAt m a))
+WholeOf v m x n w (whole.Alarm y k) = InOnePage x n × (v x w ≡ alarm k (y .0))
+WholeOf v m x n w whole.Apart = 512 < x .0 % 512 + n
+
 -- in every memory of whole frames, in either mode and for every reason: where the byte at start is
 -- found at that place, the byte at x is found at a
 pub record FoundFrom (start : VirtualAddress) (found : RealAddress) (x : VirtualAddress)
@@ -41,5 +51,5 @@ pub record FoundFrom (start : VirtualAddress) (found : RealAddress) (x : Virtual
 
 -- n bytes from x on lie in the page, and the first is found so
 abbrev pub FoundBeside : VirtualAddress → RealAddress → VirtualAddress → ℕ → Neighbour → Type 0
-FoundBeside start found x n (neighbour.At a) = (x .0 % 512 + n ≤ 512) × FoundFrom start found x a
+FoundBeside start found x n (neighbour.At a) = InOnePage x n × FoundFrom start found x a
 FoundBeside start found x n neighbour.Elsewhere = Unit {0}

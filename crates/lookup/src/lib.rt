@@ -1,10 +1,10 @@
 // The map: every step from a virtual address to a frame number and a real address. One byte is
-// looked up in the mode that the status tells; a byte beside one that was looked up is found from
-// it; in kernel mode an address is real.
+// looked up in the mode that the status tells; bytes in one page by the first of them; a byte beside
+// one that was looked up is found from it; in kernel mode an address is real.
 ghost use mathlib.Core.Path.{_≡_};
 ghost use mathlib.Core.Bool.{false};
 ghost use Prim.Native.Nat.{_<_, _≤_};
-ghost use Rattle.lookup.specs.Answers.{Fits, FoundBeside, closedBits, lookupAs};
+ghost use Rattle.lookup.specs.Answers.{Fits, FoundBeside, WholeOf, closedBits, lookupAs};
 ghost use Rattle.machine.specs.Map.{inFrame, mapped, realOf, viewBy};
 ghost use Rattle.machine.specs.State.{userMode};
 use machine::Access;
@@ -18,6 +18,14 @@ use machine::VirtualAddress;
 pub enum Lookup {
     At(RealAddress),
     Alarm(VirtualAddress, Alarm),
+}
+
+// Where the first of some bytes lies, the others adjoining it, or its address and an alarm; or the
+// bytes do not lie in one page.
+pub enum Whole {
+    At(RealAddress),
+    Alarm(VirtualAddress, Alarm),
+    Apart,
 }
 
 // The place of a byte in the page of one already looked up, or not there.
@@ -101,6 +109,29 @@ pub fn look(mem: &[u8], status: u32, map: Map, x: VirtualAddress, why: Access) -
         return Lookup::At(real(status, x));
     }
     Lookup::Alarm(x, Alarm::Address)
+}
+
+// The n bytes from x on. Where they lie in one page, it is looked up once, and the first byte's
+// answer is that of all (`OnePage`).
+pub fn look_whole(
+    mem: &[u8],
+    status: u32,
+    map: Map,
+    x: VirtualAddress,
+    n: u32,
+    why: Access,
+) -> Whole
+    requires { ⌜ Fits map (now mem) × (1 ≤ n) × (n ≤ 512) ⌝ }
+    ensures { λ r. ⌜ WholeOf (viewBy status map (now (mem .entry))) (now (mem .entry)) x n why r ⌝ }
+{
+    if 512 < x.0 % 512 + n {
+        return Whole::Apart;
+    }
+    let s = look(mem, status, map, x, why);
+    match s {
+        Lookup::At(r) => Whole::At(r),
+        Lookup::Alarm(a, k) => Whole::Alarm(a, k),
+    }
 }
 
 // Where the byte at x lies, if x is not before start and the n bytes from x on lie in the page of

@@ -8,7 +8,7 @@ use native.Mathlib.Nat.{mod-one, mod-lt, pow-succ'}
 use native.Mathlib.Omega.{arith}
 use lib.Arith.{digits-div, digits-mod, mod-mul}
 use lib.ListN.{length, getD}
-use Rattle.machine.specs.Words.{Memory, byteAt, span, bytesOf, wordAt}
+use Rattle.machine.specs.Words.{Memory, byteAt, span, bytesOf, valueAt, wordAt}
 use Rattle.machine.specs.Integers.{natural}
 use Rattle.machine.specs.Commands.{keptRest}
 use Rattle.machine.proofs.Widths.{span-positive}
@@ -58,3 +58,21 @@ module _ (L old x : ℕ) where
   pub keptRest-high : keptRest L old x / span L ≡ old / span L
   unfolding keptRest
   keptRest-high = digits-div (old / span L) (mod-lt x (span-positive L))
+
+-- ---- The number at a place
+
+module _ (m : Memory) (a : ℕ) where
+  pub one-byte-value : byteAt m a ≡ valueAt m 1 a 0
+  unfolding valueAt
+  one-byte-value = omega arith
+
+  pub two-byte-value : byteAt m a * 256 + byteAt m (a + 1) ≡ valueAt m 2 a 0
+  unfolding valueAt
+  two-byte-value = omega arith
+
+  pub four-byte-value : wordAt m a ≡ valueAt m 4 a 0
+  unfolding valueAt wordAt
+  four-byte-value =
+      let p : a + 1 + 1 ≡ a + 2 = omega arith in
+      let q : a + 2 + 1 ≡ a + 3 = omega arith in
+      rw (p, q) (omega arith)

@@ -32,3 +32,5 @@ pub mod TriedValues
 pub mod LeftShifts
 -- document 02, F-4: what pages without commands do
 pub mod PagesWithoutCommands
+-- document 02, F-7: what the lookup of a first byte tells of those in its page
+pub mod OnePage

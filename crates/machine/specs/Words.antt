@@ -49,6 +49,11 @@ bytesOfWords (w ∷ ws) = bytesOf 4 w ++ bytesOfWords ws
 unfoldable pub wordAt : Memory → ℕ → ℕ
 wordAt m a = byteAt m a * 0x100_0000 + byteAt m (a + 1) * 0x1_0000 + byteAt m (a + 2) * 0x100 + byteAt m (a + 3)
 
+-- the number that the L bytes from place a on make up, highest first, after those that make up acc
+unfoldable pub valueAt : Memory → ℕ → ℕ → ℕ → ℕ
+valueAt m zero a acc = acc
+valueAt m (suc L) a acc = valueAt m L (a + 1) (acc * 256 + byteAt m a)
+
 -- k words from place a on
 unfoldable pub wordsAt : ℕ → Memory → ℕ → List ℕ
 wordsAt zero m a = []

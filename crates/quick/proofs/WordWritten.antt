@@ -1,7 +1,6 @@
 -- A command that writes a word that was found, and nothing else, is done.
 use Prim.Native.Nat.{ℕ}
 use mathlib.Core.Path.{_≡_}
-use native.Mathlib.Omega.{arith}
 use lib.Seq.{sets}
 use Rattle.machine.specs.declared.Access.the-variants.{Write}
 use Rattle.machine.specs.declared.Map.{Map}
@@ -13,12 +12,12 @@ use Rattle.machine.specs.Alarms.{got}
 use Rattle.machine.specs.Map.{viewBy, writesFrom}
 use Rattle.machine.specs.Commands.{Done}
 use Rattle.machine.proofs.Bytes.{bytes-length}
-use Rattle.machine.proofs.Pages.{located-page}
 use Rattle.machine.proofs.Writes.{commit-from}
 use Rattle.lookup.specs.Answers.{Fits}
+use Rattle.lookup.proofs.Wholes.{adjoin-located}
 use Rattle.results.specs.Ends.{commandDone, doneEnd}
 use Rattle.sure.specs.Answers.{WordAt}
-use Rattle.sure.proofs.FoundWords.{finds}
+use Rattle.sure.proofs.FoundWords.{word-adjoins}
 
 module _ {s : ℕ} {map : Map} {m : Memory} {x : VirtualAddress} {a : RealAddress}
     (f : WordAt s map m x Write a) (fits : Fits map m) where
@@ -26,4 +25,4 @@ module _ {s : ℕ} {map : Map} {m : Memory} {x : VirtualAddress} {a : RealAddres
       → n ≡ sets m (a .0) (bytesOf 4 value)
       → commandDone (d .registers) (withFlags s (d .flags)) n ≡ doneEnd s m (viewBy s map m) (got d)
   word-written d value e h =
-      rw (e, located-page (finds f fits) (bytesOf 4 value) (omega (arith, bytes-length 4 value)), commit-from, h)
+      rw (e, adjoin-located (bytesOf 4 value) (bytes-length 4 value) (word-adjoins f fits), commit-from, h)

@@ -16,6 +16,7 @@ ghost use Prim.Native.Nat.{_<_};
 ghost use Rattle.sure.specs.Answers.{Reaches, targetOf};
 use actions::Action;
 use fetches::CommandByte;
+use lookup::Whole;
 use machine::Access;
 use machine::Map;
 use machine::RealAddress;
@@ -24,7 +25,6 @@ use machine::Size;
 use machine::VirtualAddress;
 use sure::Goes;
 use sure::Operands;
-use sure::Place;
 
 // The command is done, with a new status; or it is not sure to end so.
 pub enum Quick {
@@ -116,16 +116,16 @@ fn call(mem: &mut [u8], regs: &mut [u32; 16], status: u32, map: Map, a: u32) -> 
         (now (regs .entry)) (now (mem .entry)) (now (regs .exit)) (now (mem .exit)) r ⌝ }
 {
     let sp = words::minus(regs[14], 4);
-    let p = sure::find(mem, status, map, VirtualAddress(sp), Access::Write);
-    match p {
-        Place::At(r) => {
+    let s = lookup::look_whole(mem, status, map, VirtualAddress(sp), 4, Access::Write);
+    match s {
+        Whole::At(r) => {
             let at = r.0 as usize;
             words::value_to(mem, at, Size::W, regs[15]);
             regs[14] = sp;
             regs[15] = a;
             Quick::Done(status)
         }
-        Place::Unsure => Quick::Unsure,
+        _ => Quick::Unsure,
     }
 }
 
@@ -136,15 +136,15 @@ fn ret(mem: &[u8], regs: &mut [u32; 16], status: u32, map: Map) -> Quick
         (now (regs .entry)) (now (mem .entry)) (now (regs .exit)) (now (mem .entry)) r ⌝ }
 {
     let sp = regs[14];
-    let p = sure::find(mem, status, map, VirtualAddress(sp), Access::Read);
-    match p {
-        Place::At(r) => {
+    let s = lookup::look_whole(mem, status, map, VirtualAddress(sp), 4, Access::Read);
+    match s {
+        Whole::At(r) => {
             let at = r.0 as usize;
             regs[15] = words::word(mem, at);
             regs[14] = words::plus(sp, 4);
             Quick::Done(status)
         }
-        Place::Unsure => Quick::Unsure,
+        _ => Quick::Unsure,
     }
 }
 

@@ -7,6 +7,7 @@ ghost use Rattle.machine.specs.Map.{readBytes, viewBy};
 ghost use Rattle.machine.specs.Words.{lengthOf};
 ghost use Rattle.reads.specs.Answers.{SpanOrAlarm, gotAs};
 use lookup::Lookup;
+use lookup::Whole;
 use machine::Access;
 use machine::Alarm;
 use machine::Map;
@@ -57,18 +58,17 @@ pub fn read(mem: &[u8], status: u32, map: Map, x: VirtualAddress, size: Size) ->
     ensures { λ r. ⌜ gotAs r ≡ readBytes (viewBy status map (now (mem .entry))) Access.Read (lengthOf size) x ⌝ }
 {
     let width = size.length();
-    if x.0 % 512 + width <= 512 {
-        let s = lookup::look(mem, status, map, x, Access::Read);
-        match s {
-            Lookup::At(r) => {
-                let at = r.0 as usize;
-                let v = words::value_at(mem, at, size);
-                return Got::Value(v);
-            }
-            Lookup::Alarm(_, k) => {
-                return Got::Alarm(x.0, k);
-            }
+    let s = lookup::look_whole(mem, status, map, x, width, Access::Read);
+    match s {
+        Whole::At(r) => {
+            let at = r.0 as usize;
+            let v = words::value_at(mem, at, size);
+            return Got::Value(v);
         }
+        Whole::Alarm(_, k) => {
+            return Got::Alarm(x.0, k);
+        }
+        Whole::Apart => {}
     }
     // The slice and the answer of this call alone go through memory.
     let all = mem;
@@ -84,18 +84,17 @@ pub fn read_word(mem: &[u8], status: u32, map: Map, x: VirtualAddress) -> Got
     requires { ⌜ Fits map (now mem) ⌝ }
     ensures { λ r. ⌜ gotAs r ≡ readBytes (viewBy status map (now (mem .entry))) Access.Read 4 x ⌝ }
 {
-    if x.0 % 512 <= 508 {
-        let s = lookup::look(mem, status, map, x, Access::Read);
-        match s {
-            Lookup::At(r) => {
-                let at = r.0 as usize;
-                let v = words::word(mem, at);
-                return Got::Value(v);
-            }
-            Lookup::Alarm(_, k) => {
-                return Got::Alarm(x.0, k);
-            }
+    let s = lookup::look_whole(mem, status, map, x, 4, Access::Read);
+    match s {
+        Whole::At(r) => {
+            let at = r.0 as usize;
+            let v = words::word(mem, at);
+            return Got::Value(v);
         }
+        Whole::Alarm(_, k) => {
+            return Got::Alarm(x.0, k);
+        }
+        Whole::Apart => {}
     }
     // The slice and the answer of this call alone go through memory.
     let all = mem;

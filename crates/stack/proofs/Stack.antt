@@ -6,8 +6,8 @@ use native.Mathlib.Nat.{add-zero, zero-add}
 use native.Mathlib.Numerals.{add-one}
 use native.Mathlib.Omega.{arith}
 use borrow.Author.Tests.{eq-eqb, ne-eqb}
-use lib.ListN.{length, set, take, replicate, length-append, length-set}
-use lib.Seq.{take-all, set-append-seam, sets, set-set, set-comm, set-getD, getD-set-same}
+use lib.ListN.{length, set, take, length-append, length-set}
+use lib.Seq.{take-all, sets, set-set, set-comm, set-getD, getD-set-same}
 use Rattle.machine.specs.declared.Access.the-variants.{Read}
 use Rattle.machine.specs.declared.Alarm.{Alarm}
 use Rattle.machine.specs.declared.Map.{Map}
@@ -19,11 +19,11 @@ use Rattle.machine.specs.Alarms.{got, alarm}
 use Rattle.machine.specs.Map.{View, VirtualWrites, readBytes, viewBy, writesFrom}
 use Rattle.machine.specs.Operands.{virtual}
 use Rattle.machine.specs.Commands.{pushed, popped}
-use Rattle.machine.proofs.Blocks.{words-append, one-word, words-length, registers-length}
-use Rattle.machine.proofs.Pages.{Finds}
-use Rattle.words.proofs.Values.{four-byte-value}
+use Rattle.machine.proofs.Blocks.{sets-append, words-append, one-word, words-length, registers-length, row-filled}
+use Rattle.machine.proofs.Bytes.{four-byte-value}
+use Rattle.machine.proofs.Pages.{Finds, read-from}
 use Rattle.reads.proofs.Reading.{read-virtual}
-use Rattle.reads.proofs.OnePage.{read-from}
+use Rattle.stack.specs.Rows.{rowOf}
 
 -- ---- POPR
 
@@ -199,27 +199,37 @@ pushed-all sp r f =
           (rw (registers-length 14 0 r) (up-again sp 56 (omega arith))),
     )
 
--- ---- The row of words: R0 to R13 in their places, then SP
+-- ---- The row of words
 
-module _ (r : Registers) (sp : ℕ) where
-  -- the row once i registers are in their places
-  abbrev pub rowAt : ℕ → List ℕ
-  rowAt i = registersFrom i 0 r ++ replicate (15 - i) sp
+-- a word laid behind others
+word-laid : (ws : List ℕ) (w : ℕ) (m : Memory) (a : ℕ)
+    → sets (sets m a (bytesOfWords ws)) (a + 4 * length ws) (bytesOf 4 w) ≡ sets m a (bytesOfWords (ws ++ w ∷ []))
+word-laid ws w m a =
+    rw (words-append, one-word, sets-append (bytesOfWords ws) (bytesOf 4 w) m a, words-length ws)
 
-  pub row-next : (i : ℕ) → i < 14 → set (rowAt i) i (reg r i) ≡ rowAt (i + 1)
-  row-next i h =
-      let n : 15 - i ≡ suc (15 - (i + 1)) = omega arith in
-      let seam : set (registersFrom i 0 r ++ sp ∷ replicate (15 - (i + 1)) sp) i (reg r i) ≡ registersFrom i 0 r
-      ++ reg r i ∷ replicate (15 - (i + 1)) sp =
-      rw (registers-length i 0 r)
-      at (set-append-seam (registersFrom i 0 r) sp (replicate (15 - (i + 1)) sp) (reg r i)) in
-      rw (n, seam, add-one i, registers-last i 0 r, zero-add i, append-assoc)
+module _ (r : Registers) (m : Memory) (a : ℕ) where
+  -- one register more
+  pub next-laid : (i : ℕ)
+      → sets (sets m a (bytesOfWords (registersFrom i 0 r))) (a + 4 * i) (bytesOf 4 (reg r i))
+      ≡ sets m a (bytesOfWords (registersFrom (i + 1) 0 r))
+  next-laid i =
+      rw (add-one i, registers-last i 0 r, zero-add i)
+      (rw (registers-length i 0 r) at (word-laid (registersFrom i 0 r) (reg r i) m a))
 
-  pub row-length : length (registersFrom 14 0 r ++ sp ∷ []) ≡ 15
+  -- and SP, lowered
+  pub last-laid : sets (sets m a (bytesOfWords (registersFrom 14 0 r))) (a + 56) (bytesOf 4 (lowered (reg r 14) 4))
+      ≡ sets m a (bytesOfWords (rowOf r))
+  last-laid = rw (registers-length 14 0 r) at (word-laid (registersFrom 14 0 r) (lowered (reg r 14) 4) m a)
+
+module _ (r : Registers) where
+  row-length : length (rowOf r) ≡ 15
   row-length = rw (length-append, registers-length 14 0 r)
 
-  pub row-bytes : take 60 (bytesOfWords (registersFrom 14 0 r ++ sp ∷ [])) ≡ bytesOfWords
-      (registersFrom 14 0 r ++ sp ∷ [])
-  row-bytes =
-      take-all 60 (bytesOfWords (registersFrom 14 0 r ++ sp ∷ []))
-      (omega (arith, row-length, words-length (registersFrom 14 0 r ++ sp ∷ [])))
+  pub row-bytes : length (bytesOfWords (rowOf r)) ≡ 60
+  row-bytes = omega (arith, row-length, words-length (rowOf r))
+
+  -- sixty bytes that they fill
+  pub row-fills : (m : Memory) → length m ≡ 60 → take 60 (sets m 0 (bytesOfWords (rowOf r))) ≡ bytesOfWords (rowOf r)
+  row-fills m l =
+      rw (row-filled (rowOf r) m (omega (arith, row-length, l)))
+      (take-all 60 (bytesOfWords (rowOf r)) (omega (arith, row-bytes)))

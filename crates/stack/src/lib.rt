@@ -7,30 +7,61 @@ ghost use lib.Seq.{sets};
 ghost use Rattle.lookup.specs.Answers.{Fits};
 ghost use Rattle.machine.specs.Alarms.{got};
 ghost use Rattle.machine.specs.Commands.{called, poppedDone, pushed, returnedDone};
-ghost use Rattle.machine.specs.State.{flagsOf, reg, registersFrom};
+ghost use Rattle.machine.specs.State.{flagsOf, reg};
 ghost use Rattle.machine.specs.Words.{bytesOfWords, raised, wordAt, wordsAt};
 ghost use Rattle.results.specs.Ends.{endIn, outAs};
-use lookup::Lookup;
+ghost use Rattle.stack.specs.Rows.{rowOf};
+ghost use Rattle.stores.specs.Answers.{storedAs, storedIn};
+use lookup::Whole;
 use machine::Access;
 use machine::Map;
 use machine::Size;
 use machine::VirtualAddress;
 use reads::Got;
 use results::Out;
+use stores::Stored;
 
-// The bytes of R0 to R13 and of SP lowered once, upward.
-fn stacked(regs: &[u32; 16], sp: u32) -> [u8; 60]
-    ensures { λ r. ⌜ r ≡ bytesOfWords (registersFrom 14 0 (now (regs .entry)) ++ sp ∷ []) ⌝ }
+// R0 to R13 and SP lowered once, word by word, to the places from one on.
+fn lay(bytes: &mut [u8], regs: &[u32; 16], at: usize)
+    requires { ⌜ at + 60 ≤ length (now bytes) ⌝ }
+    ensures { λ r. ⌜ now (bytes .exit) ≡ sets (now (bytes .entry)) at (bytesOfWords (rowOf (now (regs .entry)))) ⌝ }
 {
-    let mut row: [u32; 15] = [sp; 15];
     let mut i: usize = 0;
     while i < 14 {
-        row[i] = regs[i];
+        words::value_to(bytes, at + 4 * i, Size::W, regs[i]);
         i += 1;
     }
+    words::value_to(bytes, at + 56, Size::W, words::minus(regs[14], 4));
+}
+
+// The words of PUSHR to the addresses from x on, each byte looked up by itself: they may lie in two
+// pages.
+fn push_each(mem: &mut [u8], regs: &[u32; 16], status: u32, map: Map, x: VirtualAddress) -> Stored
+    requires { ⌜ Fits map (now mem) ⌝ }
+    ensures { λ r. ⌜ storedAs r (now (mem .exit))
+        ≡ storedIn status map (now (mem .entry)) x (bytesOfWords (rowOf (now (regs .entry)))) ⌝ }
+{
     let mut bytes: [u8; 60] = [0; 60];
-    words::put_words(&mut bytes, 0, &row);
-    bytes
+    lay(&mut bytes, regs, 0);
+    stores::store_each(mem, status, map, x, &bytes, 60)
+}
+
+// The words of PUSHR to the addresses from x on.
+fn push_all(mem: &mut [u8], regs: &[u32; 16], status: u32, map: Map, x: VirtualAddress) -> Stored
+    requires { ⌜ Fits map (now mem) ⌝ }
+    ensures { λ r. ⌜ storedAs r (now (mem .exit))
+        ≡ storedIn status map (now (mem .entry)) x (bytesOfWords (rowOf (now (regs .entry)))) ⌝ }
+{
+    let s = lookup::look_whole(mem, status, map, x, 60, Access::Write);
+    match s {
+        Whole::At(r) => {
+            let at = r.0 as usize;
+            lay(mem, regs, at);
+            Stored::Done
+        }
+        Whole::Alarm(_, k) => Stored::Alarm(x.0, k),
+        Whole::Apart => push_each(mem, regs, status, map, x),
+    }
 }
 
 pub fn push(mem: &mut [u8], regs: &mut [u32; 16], status: u32, map: Map) -> Out
@@ -39,10 +70,8 @@ pub fn push(mem: &mut [u8], regs: &mut [u32; 16], status: u32, map: Map) -> Out
         ≡ endIn status map (now (mem .entry))
         (λ v. got (pushed 15 (reg (now (regs .entry)) 14) (now (regs .entry)) [] (flagsOf status))) ⌝ }
 {
-    let sp = regs[14];
-    let bytes = stacked(regs, words::minus(sp, 4));
-    let low = words::minus(sp, 60);
-    let done = stores::store_bytes(mem, status, map, VirtualAddress(low), &bytes, 60);
+    let low = words::minus(regs[14], 60);
+    let done = push_all(mem, regs, status, map, VirtualAddress(low));
     regs[14] = low;
     results::ended(done, status)
 }
@@ -93,20 +122,16 @@ pub fn pop(mem: &[u8], regs: &mut [u32; 16], status: u32, map: Map) -> Out
     // Through a slice, of which the proof knows that it holds sixteen words.
     let row = &regs[..];
     let sp = row[14];
-    if sp % 512 + 60 <= 512 {
-        let s = lookup::look(mem, status, map, VirtualAddress(sp), Access::Read);
-        match s {
-            Lookup::At(r) => {
-                let at = r.0 as usize;
-                fill(mem, regs, at);
-                return Out::Done(status);
-            }
-            Lookup::Alarm(_, k) => {
-                return Out::Alarm(sp, k);
-            }
+    let s = lookup::look_whole(mem, status, map, VirtualAddress(sp), 60, Access::Read);
+    match s {
+        Whole::At(r) => {
+            let at = r.0 as usize;
+            fill(mem, regs, at);
+            Out::Done(status)
         }
+        Whole::Alarm(_, k) => Out::Alarm(sp, k),
+        Whole::Apart => pop_each(mem, regs, status, map),
     }
-    pop_each(mem, regs, status, map)
 }
 
 pub fn call(mem: &mut [u8], regs: &mut [u32; 16], status: u32, map: Map, a: u32) -> Out

@@ -1,13 +1,14 @@
 // Values and rows of bytes to memory through the map: every byte is looked up, in the memory from
-// the start, before any is written. Bytes that lie in one page are found by the lookup of the first.
+// the start, before any is written. Where the bytes of a value lie in one page, one lookup answers
+// for all of them; the bytewise way stands beside it.
 ghost use mathlib.Core.Path.{_≡_};
-ghost use Prim.Native.Nat.{_+_, _≤_};
-ghost use lib.ListN.{length, take};
-ghost use lib.Seq.{sets};
+ghost use Prim.Native.Nat.{_≤_};
+ghost use lib.ListN.{take};
 ghost use Rattle.lookup.specs.Answers.{Fits};
 ghost use Rattle.machine.specs.Words.{bytesOf, lengthOf};
 ghost use Rattle.stores.specs.Answers.{storedAs, storedIn};
 use lookup::Lookup;
+use lookup::Whole;
 use machine::Access;
 use machine::Alarm;
 use machine::Map;
@@ -21,21 +22,9 @@ pub enum Stored {
     Alarm(u32, Alarm),
 }
 
-// Some bytes to the places from one on.
-fn lay(mem: &mut [u8], at: usize, bytes: &[u8])
-    requires { ⌜ at + length (now bytes) ≤ length (now mem) ⌝ }
-    ensures { λ r. ⌜ now (mem .exit) ≡ sets (now (mem .entry)) at (now (bytes .entry)) ⌝ }
-{
-    let mut i: usize = 0;
-    while i < bytes.len() {
-        mem[at + i] = bytes[i];
-        i += 1;
-    }
-}
-
 // The first n of some bytes to the addresses from x on, each looked up by itself: they may lie in
-// two pages. Apart from `store_bytes`, so that bytes in one page need no row of places.
-fn store_each(
+// two pages.
+pub fn store_each(
     mem: &mut [u8],
     status: u32,
     map: Map,
@@ -73,37 +62,6 @@ fn store_each(
     Stored::Done
 }
 
-// The first n of some bytes to the addresses from x on.
-pub fn store_bytes(
-    mem: &mut [u8],
-    status: u32,
-    map: Map,
-    x: VirtualAddress,
-    bytes: &[u8; 60],
-    n: usize,
-) -> Stored
-    requires { ⌜ Fits map (now mem) × (n ≤ 60) ⌝ }
-    ensures { λ r. ⌜ storedAs r (now (mem .exit))
-        ≡ storedIn status map (now (mem .entry)) x (take n (now (bytes .entry))) ⌝ }
-{
-    let source = &bytes[..];
-    // No bytes, no lookup: there would be no first byte whose alarm is the answer.
-    if 0 < n && x.0 as usize % 512 + n <= 512 {
-        let s = lookup::look(mem, status, map, x, Access::Write);
-        match s {
-            Lookup::At(r) => {
-                let at = r.0 as usize;
-                lay(mem, at, &source[..n]);
-                return Stored::Done;
-            }
-            Lookup::Alarm(_, k) => {
-                return Stored::Alarm(x.0, k);
-            }
-        }
-    }
-    store_each(mem, status, map, x, bytes, n)
-}
-
 // The first bytes of a buffer are the value's, highest first.
 fn bytes_of(size: Size, value: u32) -> [u8; 60]
     ensures { λ r. ⌜ take (lengthOf size) r ≡ bytesOf (lengthOf size) value ⌝ }
@@ -127,21 +85,19 @@ pub fn store(
         ≡ storedIn status map (now (mem .entry)) x (bytesOf (lengthOf size) value) ⌝ }
 {
     let n = size.length();
-    if x.0 % 512 + n <= 512 {
-        let s = lookup::look(mem, status, map, x, Access::Write);
-        match s {
-            Lookup::At(r) => {
-                let at = r.0 as usize;
-                words::value_to(mem, at, size, value);
-                return Stored::Done;
-            }
-            Lookup::Alarm(_, k) => {
-                return Stored::Alarm(x.0, k);
-            }
+    let s = lookup::look_whole(mem, status, map, x, n, Access::Write);
+    match s {
+        Whole::At(r) => {
+            let at = r.0 as usize;
+            words::value_to(mem, at, size, value);
+            Stored::Done
+        }
+        Whole::Alarm(_, k) => Stored::Alarm(x.0, k),
+        Whole::Apart => {
+            let bytes = bytes_of(size, value);
+            store_each(mem, status, map, x, &bytes, n as usize)
         }
     }
-    let bytes = bytes_of(size, value);
-    store_each(mem, status, map, x, &bytes, n as usize)
 }
 
 // A word to an address. Small enough to become part of its caller.
@@ -149,18 +105,14 @@ pub fn store_word(mem: &mut [u8], status: u32, map: Map, x: VirtualAddress, valu
     requires { ⌜ Fits map (now mem) ⌝ }
     ensures { λ r. ⌜ storedAs r (now (mem .exit)) ≡ storedIn status map (now (mem .entry)) x (bytesOf 4 value) ⌝ }
 {
-    if x.0 % 512 <= 508 {
-        let s = lookup::look(mem, status, map, x, Access::Write);
-        match s {
-            Lookup::At(r) => {
-                let at = r.0 as usize;
-                words::value_to(mem, at, Size::W, value);
-                return Stored::Done;
-            }
-            Lookup::Alarm(_, k) => {
-                return Stored::Alarm(x.0, k);
-            }
+    let s = lookup::look_whole(mem, status, map, x, 4, Access::Write);
+    match s {
+        Whole::At(r) => {
+            let at = r.0 as usize;
+            words::value_to(mem, at, Size::W, value);
+            Stored::Done
         }
+        Whole::Alarm(_, k) => Stored::Alarm(x.0, k),
+        Whole::Apart => store(mem, status, map, x, Size::W, value),
     }
-    store(mem, status, map, x, Size::W, value)
 }

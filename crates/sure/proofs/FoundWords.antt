@@ -18,19 +18,21 @@ use Rattle.machine.specs.State.{userMode}
 use Rattle.machine.specs.Alarms.{got, alarm}
 use Rattle.machine.specs.Map.{pageOf, mapEntry, present, frameOf, undamaged, Found, foundAt, inFrame, allowsWrite}
 use Rattle.machine.specs.Map.{allowsFetch, inNumberOrder, mapped, unmapped, viewBy, readBytes}
-use Rattle.machine.proofs.Pages.{Finds, page-inside}
+use Rattle.machine.specs.OnePage.{InOnePage}
+use Rattle.machine.proofs.Bytes.{four-byte-value}
 use Rattle.machine.proofs.Views.{order-got}
-use Rattle.words.proofs.Values.{four-byte-value}
-use Rattle.lookup.specs.Answers.{Fits}
-use Rattle.reads.proofs.OnePage.{read-page}
-use Rattle.sure.specs.declared.Place.{Place}
-use Rattle.sure.specs.declared.Place.the-variants as place
-use Rattle.sure.specs.Answers.{WordAt, PlaceOf}
+use Rattle.lookup.specs.declared.Whole.{Whole}
+use Rattle.lookup.specs.declared.Whole.the-variants as whole
+use Rattle.lookup.specs.Answers.{Fits, WholeOf}
+use Rattle.lookup.proofs.Wholes.{Adjoin, adjoin-inside, adjoin-read}
+use Rattle.sure.specs.Answers.{WordAt}
 
 -- an answer that names a place
-pub word-at : {s : ℕ} {map : Map} {m : Memory} {x : VirtualAddress} {w : Access} {a : RealAddress} {p : Place}
-    → p ≡ place.At a → PlaceOf s map m x w p → WordAt s map m x w a
-word-at e h = rw e at h
+pub word-at : {s : ℕ} {map : Map} {m : Memory} {x : VirtualAddress} {w : Access} {a : RealAddress} {q : Whole}
+    → q ≡ whole.At a → WholeOf (viewBy s map m) m x 4 w q → WordAt s map m x w a
+word-at {s} {map} {m} {x} {w} {a} e h =
+    let told : InOnePage x 4 × (viewBy s map m x w ≡ got (foundAt m a)) = rw e at h in
+    record { hit = told .1; near = told .0 }
 
 -- ---- An address that is found has 32 bits: the map and the memory are small
 
@@ -66,19 +68,22 @@ readable s map m x w f = go (userMode s)
 
 -- ---- The word
 
+-- its bytes adjoin each other, for any reason that its first byte is found for
+adjoins : {s : ℕ} {map : Map} {m : Memory} {x : VirtualAddress} {w : Access} {a : RealAddress} → Fits map m
+    → InOnePage x 4 → viewBy s map m x w ≡ got (foundAt m a) → Adjoin s map m x w 4 a
+adjoins {s} {x = x} {w = w} fits near hit = record {
+  bytes = record { frames = fits .whole; address = found-small s x w fits hit; some = omega arith; page = near };
+  hit = hit;
+}
+
 module _ {s : ℕ} {map : Map} {m : Memory} {x : VirtualAddress} {w : Access} {a : RealAddress}
     (f : WordAt s map m x w a) (fits : Fits map m) where
-  pub finds : Finds s map m x w a
-  finds = record { small = found-small s x w fits (f .hit); whole = fits .whole; hit = f .hit }
+  pub word-adjoins : Adjoin s map m x w 4 a
+  word-adjoins = adjoins fits (f .near) (f .hit)
 
   pub word-inside : a .0 + 4 ≤ length m
-  word-inside = page-inside finds 4 (omega arith) (f .near)
+  word-inside = adjoin-inside word-adjoins
 
   pub word-read : readBytes (viewBy s map m) Read 4 x ≡ got (wordAt m (a .0))
   word-read =
-      let read : Finds s map m x Read a = record {
-        small = finds .small;
-        whole = fits .whole;
-        hit = readable s map m x w _ (f .hit);
-      } in
-      read-page read 4 (f .near) ∙ ap got (sym (four-byte-value m (a .0)))
+      adjoin-read (adjoins fits (f .near) (readable s map m x w _ (f .hit))) ∙ ap got (sym (four-byte-value m (a .0)))

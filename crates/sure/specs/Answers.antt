@@ -1,5 +1,5 @@
 -- What is sure of an operand, in the terms of `machine`. Of what is unsure nothing is said.
-use Prim.Native.Nat.{ℕ, _+_, _%_, _<_, _≤_}
+use Prim.Native.Nat.{ℕ, _<_}
 use mathlib.Core.Path.{_≡_}
 use mathlib.Core.List.{List}
 use lib.ListN.{set}
@@ -16,11 +16,10 @@ use Rattle.machine.specs.Words.{Memory}
 use Rattle.machine.specs.State.{Registers, reg}
 use Rattle.machine.specs.Alarms.{got}
 use Rattle.machine.specs.Map.{foundAt, View, viewBy}
+use Rattle.machine.specs.OnePage.{InOnePage}
 use Rattle.machine.specs.Code.{Rule}
 use Rattle.machine.specs.Operands.{Fields, Location, immediate, register, memory, at, formed, operandAt, taken}
 use Rattle.machine.specs.Operands.{takenBy, operandsOf}
-use Rattle.sure.specs.declared.Place.{Place}
-use Rattle.sure.specs.declared.Place.the-variants as place
 use Rattle.sure.specs.declared.Spot.{Spot}
 use Rattle.sure.specs.declared.Spot.the-variants as spot
 use Rattle.sure.specs.declared.Goes.{Goes}
@@ -30,16 +29,12 @@ use Rattle.sure.specs.declared.Taken.the-variants as takes
 use Rattle.sure.specs.declared.Operands.{Operands}
 use Rattle.sure.specs.declared.Operands.the-variants as operands
 
--- ---- Places
+-- ---- A word that is found
 
 -- the word at x lies in one page, and the lookup of its first byte finds place a
 pub record WordAt (s : ℕ) (map : Map) (m : Memory) (x : VirtualAddress) (w : Access) (a : RealAddress) : Type 0 where
   pub hit : viewBy s map m x w ≡ got (foundAt m a)
-  pub near : x .0 % 512 + 4 ≤ 512
-
-abbrev pub PlaceOf : ℕ → Map → Memory → VirtualAddress → Access → Place → Type 0
-PlaceOf s map m x w (place.At a) = WordAt s map m x w a
-PlaceOf s map m x w place.Unsure = Unit {0}
+  pub near : InOnePage x 4
 
 -- ---- Where an operand is
 

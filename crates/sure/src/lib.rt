@@ -8,21 +8,15 @@ ghost use Rattle.lookup.specs.Answers.{Fits};
 ghost use Rattle.machine.specs.Map.{viewBy};
 ghost use Rattle.machine.specs.Operands.{memory};
 ghost use Rattle.rules.specs.Rules.{rulesIn};
-ghost use Rattle.sure.specs.Answers.{OnlyR15, OperandOf, PlaceOf, ReachesAll, ReachesTaken, ReadyOf, SmallSpot};
+ghost use Rattle.sure.specs.Answers.{OnlyR15, OperandOf, ReachesAll, ReachesTaken, ReadyOf, SmallSpot};
 ghost use Rattle.sure.specs.Answers.{SpotOf, TakenFrom, TakenOf, accessOf};
 use fetches::Nearby;
-use lookup::Lookup;
+use lookup::Whole;
 use machine::Access;
 use machine::Map;
 use machine::RealAddress;
 use machine::Role;
 use machine::VirtualAddress;
-
-// Where some bytes lie.
-pub enum Place {
-    At(RealAddress),
-    Unsure,
-}
 
 // Where an operand is: its number; a register and what it holds; its address.
 pub enum Spot {
@@ -50,21 +44,6 @@ pub enum Taken {
 pub enum Operands {
     Ready(u32, u32, Goes),
     Unsure,
-}
-
-// The place of the four bytes from x on.
-pub fn find(mem: &[u8], status: u32, map: Map, x: VirtualAddress, why: Access) -> Place
-    requires { ⌜ Fits map (now mem) ⌝ }
-    ensures { λ r. ⌜ PlaceOf status map (now (mem .entry)) x why r ⌝ }
-{
-    if 508 < x.0 % 512 {
-        return Place::Unsure;
-    }
-    let s = lookup::look(mem, status, map, x, why);
-    match s {
-        Lookup::At(r) => Place::At(r),
-        Lookup::Alarm(_, _) => Place::Unsure,
-    }
 }
 
 // A word operand, over registers with R15 past it.
@@ -127,9 +106,9 @@ fn take_memory(mem: &[u8], status: u32, map: Map, role: Role, a: VirtualAddress)
         return Taken::Got(a.0, Goes::Nowhere);
     }
     let why = access(role);
-    let p = find(mem, status, map, a, why);
-    match p {
-        Place::At(r) => {
+    let s = lookup::look_whole(mem, status, map, a, 4, why);
+    match s {
+        Whole::At(r) => {
             let at = r.0 as usize;
             let n = operands::number(role, words::word(mem, at));
             if rules::writes(role) {
@@ -137,7 +116,7 @@ fn take_memory(mem: &[u8], status: u32, map: Map, role: Role, a: VirtualAddress)
             }
             Taken::Got(n, Goes::Nowhere)
         }
-        Place::Unsure => Taken::Unsure,
+        _ => Taken::Unsure,
     }
 }
 

@@ -4,8 +4,7 @@ ghost use mathlib.Core.Path.{_≡_};
 ghost use Prim.Native.Nat.{_*_, _+_, _<_, _≤_};
 ghost use lib.ListN.{length};
 ghost use lib.Seq.{sets};
-ghost use Rattle.machine.specs.Words.{bytesOf, bytesOfWords, lengthOf, lowered, raised, wordAt, wordsAt};
-ghost use Rattle.words.specs.Values.{valueAt};
+ghost use Rattle.machine.specs.Words.{bytesOf, bytesOfWords, lengthOf, lowered, raised, valueAt, wordAt, wordsAt};
 use machine::Size;
 
 pub fn wide(x: u8) -> u32

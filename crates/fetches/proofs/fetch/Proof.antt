@@ -4,10 +4,9 @@ use mathlib.Core.Path.{_∙_, sym, ap}
 use native.Mathlib.Omega.{arith}
 use borrow.Author.Needs.{needs}
 use Rattle.machine.specs.Alarms.{got}
-use Rattle.machine.proofs.Pages.{read-alarm}
+use Rattle.machine.proofs.Pages.{read-alarm, read-page}
 use Rattle.lookup.proofs.Lookups.{look-found, look-alarm, look-inside}
-use Rattle.words.proofs.Values.{one-byte-value}
-use Rattle.reads.proofs.OnePage.{read-page}
+use Rattle.machine.proofs.Bytes.{one-byte-value}
 use Rattle.fetches.proofs.fetch.Statement.{statement}
 use Rattle.fetches.proofs.fetch.Tie as tie
 

@@ -46,13 +46,12 @@ returns-4 c =
 returns-5 : tie.Need-returns-5
 unfolding keepsRules byForm
 returns-5 c =
-    let i = c .before .before .before in (
+    let i = c .before .before in (
       simp (
         i .before .match .keys6,
         eq-eqb _ _ (i .if9 .taken),
         c .behind .ensures .same,
-        c .before .read .ensures,
-        c .before .before .plus4 .ensures,
+        c .before .plus4 .ensures,
         add-zero,
       ),
       c .behind .ensures .small,
@@ -140,11 +139,10 @@ returns-14 : tie.Need-returns-14
 unfolding keepsRules byForm
 returns-14 c = (
   simp (
-    c .before .before .before .before .match .keys7,
+    c .before .before .before .match .keys7,
     c .behind2 .ensures .same,
     c .before .scaled2 .ensures,
-    c .before .before .read2 .ensures,
-    c .before .before .before .plus5 .ensures,
+    c .before .before .plus5 .ensures,
     add-mod-mod,
   ),
   c .behind2 .ensures .small,
@@ -186,9 +184,8 @@ by-form-spec =
     (tie.spec
     (λ c. search needs) (λ c. search needs) (λ c. search needs) (λ c. search needs) (λ c κs. search needs)
     returns (λ c κs. search needs) returns-2 returns-3 (λ c κs. search needs) returns-4 (λ c κs. search needs)
+    (λ c κs. search needs) (λ c κs. search needs) (λ c κs. search needs) (λ c κs. search needs) returns-5
     (λ c κs. search needs) (λ c κs. search needs) (λ c κs. search needs) (λ c κs. search needs)
-    (λ c κs. search needs) returns-5 (λ c κs. search needs) (λ c κs. search needs) (λ c κs. search needs)
-    (λ c κs. search needs) (λ c κs. search needs) (λ c κs. search needs) (λ c κs. search needs)
-    (λ c. search needs) (λ c. search needs) returns-6 (λ c κs. search needs) (λ c κs. search needs)
+    (λ c κs. search needs) (λ c κs. search needs) (λ c. search needs) (λ c. search needs) returns-6 (λ c κs. search needs) (λ c κs. search needs)
     (λ c κs. search needs) (λ c. search needs) (λ c. search needs) (λ c κs. search needs) returns-7 returns-8
     returns-9 returns-10 returns-11 returns-12 returns-13 returns-14 returns-15 returns-16 returns-17)

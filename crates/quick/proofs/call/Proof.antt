@@ -12,10 +12,10 @@ use Rattle.quick.proofs.call.Statement.{statement}
 use Rattle.quick.proofs.call.Tie as tie
 
 -- the word at the lowered SP is found
-found : (c : tie.After-p) → let a = c .before .before .before .before .before .before .before .args in
+found : (c : tie.After-s) → let a = c .before .before .before .before .before .before .before .args in
     WordAt (a .status) (a .map) (a .mem .now) (record { 0 = c .before .before .before .before .minus .result }) Write
-    (c .p .given .0 .0)
-found c = word-at (c .p .given .1) (c .before .before .find .ensures)
+    (c .s .given .0 .0)
+found c = word-at (c .s .given .1) (c .before .before .look-whole .ensures)
 
 value-to-requires : tie.Need-value-to-requires
 value-to-requires c κs =
@@ -41,4 +41,4 @@ call-spec =
     (tie.spec
     (λ c. search needs) (λ c κs. search needs) (λ c κs. search needs) (λ c. search needs) (λ c. search needs)
     (λ c. search needs) value-to-requires (λ c. search needs) (λ c. search needs) (λ c. search needs)
-    (λ c. search needs) returns (λ c. search needs) (λ c. search needs))
+    returns (λ c. search needs) (λ c. search needs))

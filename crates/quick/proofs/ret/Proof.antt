@@ -13,9 +13,9 @@ use Rattle.quick.proofs.ret.Statement.{statement}
 use Rattle.quick.proofs.ret.Tie as tie
 
 -- the word at SP is found
-found : (c : tie.After-p) → let a = c .before .before .before .before .before .args in
-    WordAt (a .status) (a .map) (a .mem .now) (record { 0 = reg (a .regs .now) 14 }) Read (c .p .given .0 .0)
-found c = word-at (c .p .given .1) (c .before .before .find .ensures)
+found : (c : tie.After-s) → let a = c .before .before .before .before .before .args in
+    WordAt (a .status) (a .map) (a .mem .now) (record { 0 = reg (a .regs .now) 14 }) Read (c .s .given .0 .0)
+found c = word-at (c .s .given .1) (c .before .before .look-whole .ensures)
 
 word-requires : tie.Need-word-requires
 word-requires c κs =
@@ -38,5 +38,4 @@ ret-spec =
     tie.close
     (tie.spec
     (λ c. search needs) (λ c κs. search needs) (λ c. search needs) (λ c. search needs) word-requires
-    (λ c. search needs) (λ c κs. search needs) (λ c. search needs) (λ c. search needs) returns
-    (λ c. search needs))
+    (λ c. search needs) (λ c κs. search needs) (λ c. search needs) returns (λ c. search needs))

@@ -4,30 +4,24 @@ use borrow.Author.Needs.{needs}
 use Rattle.machine.specs.State.{reg, flagsOf}
 use Rattle.machine.specs.Map.{viewBy}
 use Rattle.results.proofs.Ends.{stored-end, same-status}
-use Rattle.stack.proofs.Stack.{pushed-all, row-bytes}
+use Rattle.stack.proofs.Stack.{pushed-all}
 use Rattle.stack.proofs.push.Statement.{statement}
 use Rattle.stack.proofs.push.Tie as tie
 
 returns : tie.Need-returns
 returns c =
-    let a = c .before .before .before .before .before .before .before .before .before .before .before .before .args in
     let stored = c .before .before .before in
-    let low = c .before .before .before .before .before .before .minus2 .ensures in
+    let a = stored .before .before .before .before .before .before .args in
+    let low = stored .before .before .before .minus .ensures in
     rw (low, pushed-all (reg (a .regs .now) 14) (a .regs .now) (flagsOf (a .status)))
     (stored-end (a .status) (a .mem .now) (viewBy (a .status) (a .map) (a .mem .now)) _
-    (stored .store-bytes .last .0) (stored .store-bytes .result) (c .ended .result)
+    (stored .push-all .last .0) (stored .push-all .result) (c .ended .result)
     (rw same-status (c .ended .ensures))
-    (rw (
-      low,
-      c .before .before .before .before .before .before .before .stacked .ensures,
-      c .before .before .before .before .before .before .before .before .minus .ensures,
-      row-bytes,
-    )
-    at (stored .store-bytes .ensures)))
+    (rw low at (stored .push-all .ensures)))
 
 pub push-spec : {M : Type 1} → statement M
 push-spec =
     tie.close
     (tie.spec
-    (λ c. search needs) (λ c κs. search needs) (λ c κs. search needs) (λ c κs. search needs)
-    (λ c κs. search needs) (λ c. search needs) (λ c κs. search needs) (λ c. search needs) returns)
+    (λ c. search needs) (λ c κs. search needs) (λ c κs. search needs) (λ c. search needs) (λ c κs. search needs)
+    (λ c. search needs) returns)

@@ -6,16 +6,16 @@ use Rattle.machine.specs.declared.Access.the-variants.{Read}
 use Rattle.machine.specs.Alarms.{got}
 use Rattle.machine.specs.Map.{readBytes, viewBy}
 use Rattle.sure.specs.Answers.{WordAt}
-use Rattle.sure.proofs.FoundWords.{word-inside, word-read}
+use Rattle.sure.proofs.FoundWords.{word-at, word-inside, word-read}
 use Rattle.sure.proofs.Taking.{written-access, takes-address, takes-written, takes-value}
 use Rattle.sure.proofs.take_memory.Statement.{statement}
 use Rattle.sure.proofs.take_memory.Tie as tie
 
 -- the word was found, for what the role does with it
-found : (c : tie.After-p) → let s = c .before .before .before .before .before .before .before in
+found : (c : tie.After-s) → let s = c .before .before .before .before .before .before .before in
     WordAt (s .args .status) (s .args .map) (s .args .mem .now) (s .args .a) (c .before .before .before .access .result)
-    (c .p .given .0 .0)
-found c = rw (c .p .given .1) at (c .before .before .find .ensures)
+    (c .s .given .0 .0)
+found c = word-at (c .s .given .1) (c .before .before .look-whole .ensures)
 
 word-requires : tie.Need-word-requires
 word-requires c κs =
@@ -56,5 +56,5 @@ take-memory-spec =
     tie.close
     (tie.spec
     (λ c κs. search needs) returns (λ c κs. search needs) (λ c κs. search needs) (λ c. search needs)
-    (λ c. search needs) word-requires (λ c κs. search needs) (λ c κs. search needs) returns-2
-    (λ c. search needs) returns-3 (λ c. search needs))
+    (λ c. search needs) word-requires (λ c κs. search needs) (λ c κs. search needs) returns-2 returns-3
+    (λ c. search needs))

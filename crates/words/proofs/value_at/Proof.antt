@@ -2,7 +2,7 @@
 use mathlib.Core.Path.{_∙_}
 use native.Mathlib.Omega.{arith}
 use borrow.Author.Needs.{needs}
-use Rattle.words.proofs.Values.{one-byte-value, two-byte-value, four-byte-value}
+use Rattle.machine.proofs.Bytes.{one-byte-value, two-byte-value, four-byte-value}
 use Rattle.words.proofs.value_at.Statement.{statement}
 use Rattle.words.proofs.value_at.Tie as tie
 
