@@ -1,6 +1,6 @@
 -- What one lookup tells of the bytes in its page: the six bytes of an operand.
-use Prim.Native.Nat.{ℕ, zero, suc, _+_, _*_, _/_, _%_, _≤_, _<_}
-use mathlib.Core.Path.{_≡_, refl, sym, ap, _∙_}
+use Prim.Native.Nat.{ℕ, _+_, _/_, _%_, _≤_}
+use mathlib.Core.Path.{_≡_, sym, ap, _∙_}
 use native.Mathlib.Omega.{arith}
 use Rattle.machine.specs.declared.RealAddress.{RealAddress}
 use Rattle.machine.specs.declared.VirtualAddress.{VirtualAddress}
@@ -9,7 +9,7 @@ use Rattle.machine.specs.declared.Access.the-variants.{Fetch}
 use Rattle.machine.specs.declared.Map.{Map}
 use Rattle.machine.specs.Words.{Memory, byteAt, wordAt, wrap}
 use Rattle.machine.specs.Alarms.{got, alarm}
-use Rattle.machine.specs.Map.{viewBy, readFrom, readBytes}
+use Rattle.machine.specs.Map.{viewBy, readFrom}
 use Rattle.machine.specs.Operands.{fieldsAt}
 use Rattle.machine.proofs.Pages.{Alarms, read-alarm, Finds, read-from, read-page}
 use Rattle.machine.proofs.Bytes.{one-byte-value, four-byte-value}

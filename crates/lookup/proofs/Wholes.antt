@@ -1,4 +1,5 @@
--- What an answer of `look_whole` says of all bytes that it was asked for, by `one-page` of `machine`.
+-- What an answer of `look_whole` says of all bytes that it was asked for, by `one-page` of
+-- `machine`.
 use Prim.Native.Nat.{ℕ, _+_, _<_, _≤_}
 use mathlib.Core.Path.{_≡_, ap, _∙_}
 use mathlib.Core.List.{List}

@@ -1,6 +1,6 @@
 // The map: every step from a virtual address to a frame number and a real address. One byte is
-// looked up in the mode that the status tells; bytes in one page by the first of them; a byte beside
-// one that was looked up is found from it; in kernel mode an address is real.
+// looked up in the mode that the status tells; bytes in one page by the first of them; a byte
+// beside one that was looked up is found from it; in kernel mode an address is real.
 ghost use mathlib.Core.Path.{_≡_};
 ghost use mathlib.Core.Bool.{false};
 ghost use Prim.Native.Nat.{_<_, _≤_};

@@ -12,7 +12,6 @@ use Rattle.machine.specs.declared.Access.the-variants.{Write}
 use Rattle.machine.specs.declared.Alarm.{Alarm}
 use Rattle.machine.specs.declared.Alarm.the-variants as alarms
 use Rattle.machine.specs.declared.Map.{Map}
-use Rattle.machine.specs.declared.RealAddress.{RealAddress}
 use Rattle.machine.specs.declared.VirtualAddress.{VirtualAddress}
 use Rattle.machine.specs.Words.{pick, Memory, byteAt, valueAt, wrap}
 use Rattle.machine.specs.State.{userMode}

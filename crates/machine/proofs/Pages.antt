@@ -1,6 +1,6 @@
--- What the lookup of a first byte tells of the bytes after it in its page: each has the same alarm, or
--- lies as far behind it in memory as in the page. So values, and writes of any number of bytes, go to
--- one place. In kernel mode this rests on a memory of whole frames.
+-- What the lookup of a first byte tells of the bytes after it in its page: each has the same alarm,
+-- or lies as far behind it in memory as in the page. So values, and writes of any number of bytes,
+-- go to one place. In kernel mode this rests on a memory of whole frames.
 use Prim.Native.Nat.{ℕ, zero, suc, _+_, _-_, _*_, _/_, _%_, _≤_, _<_}
 use mathlib.Core.Path.{_≡_, refl, ap, _∙_}
 use mathlib.Core.Bool.{Bool, true, false}
@@ -19,7 +19,7 @@ use Rattle.machine.specs.declared.Access.{Access}
 use Rattle.machine.specs.declared.Access.the-variants.{Write}
 use Rattle.machine.specs.Words.{pick, Memory, byteAt, valueAt, wrap}
 use Rattle.machine.specs.State.{frameStart, userMode}
-use Rattle.machine.specs.Alarms.{OrAlarm, got, alarm}
+use Rattle.machine.specs.Alarms.{got, alarm}
 use Rattle.machine.specs.Map.{pageOf, mapEntry, present, forbiddenBits, frameOf, undamaged, Found, foundAt}
 use Rattle.machine.specs.Map.{inFrame, allowsWrite, allowsFetch, inNumberOrder, View, mapped, unmapped, realOf}
 use Rattle.machine.specs.Map.{viewBy, readFrom, readBytes, writesFrom, realWritesFrom, located}

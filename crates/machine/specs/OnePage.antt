@@ -55,10 +55,10 @@ wholeWrites bs (alarm k a) = alarm k a
 
 -- ---- The statement
 
--- n bytes in one page, at least one, from an address on, in a memory of whole frames (number 1 makes
--- sure of it; only kernel mode needs it). In user mode the map puts them all into one frame, or
--- refuses them all alike. In kernel mode an address is real and no page is looked up; there `page`
--- asks that they lie in one frame, and a memory of whole frames holds all of it or nothing
+-- n bytes in one page, at least one, from an address on, in a memory of whole frames (number 1
+-- makes sure of it; only kernel mode needs it). In user mode the map puts them all into one frame,
+-- or refuses them all alike. In kernel mode an address is real and no page is looked up; there
+-- `page` asks that they lie in one frame, and a memory of whole frames holds all of it or nothing
 pub record Together (m : Memory) (x : VirtualAddress) (n : ℕ) : Type 0 where
   pub frames : length m % 512 ≡ 0
   pub address : x .0 < 0x1_0000_0000

@@ -1,5 +1,5 @@
--- `look_whole` is right: the test of the address is that of one page, and the lookup's answer is the
--- view's.
+-- `look_whole` is right: the test of the address is that of one page, and the lookup's answer is
+-- the view's.
 use native.Mathlib.Omega.{arith}
 use borrow.Author.Needs.{needs}
 use Rattle.lookup.proofs.Lookups.{look-hit, look-miss}

@@ -1,5 +1,5 @@
--- `read` is right: where the bytes lie in one page, the answer for the first is that for all; others
--- are read byte by byte.
+-- `read` is right: where the bytes lie in one page, the answer for the first is that for all;
+-- others are read byte by byte.
 use mathlib.Core.Path.{_∙_, sym, ap}
 use native.Mathlib.Omega.{arith}
 use borrow.Author.Needs.{needs}

@@ -1,5 +1,5 @@
--- `read_word` is right: where the word lies in one page, the answer for its first byte is that for all
--- four; others are read by `read`.
+-- `read_word` is right: where the word lies in one page, the answer for its first byte is that for
+-- all four; others are read by `read`.
 use mathlib.Core.Path.{_∙_, sym, ap}
 use native.Mathlib.Omega.{arith}
 use borrow.Author.Needs.{needs}

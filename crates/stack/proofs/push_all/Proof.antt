@@ -1,5 +1,5 @@
--- `push_all` is right: where the sixty bytes go to one page, the answer for the first is that for all;
--- others are stored byte by byte.
+-- `push_all` is right: where the sixty bytes go to one page, the answer for the first is that for
+-- all; others are stored byte by byte.
 use native.Mathlib.Omega.{arith}
 use borrow.Author.Needs.{needs}
 use Rattle.machine.specs.declared.Access.the-variants.{Write}

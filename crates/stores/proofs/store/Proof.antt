@@ -1,5 +1,5 @@
--- `store` is right: where the bytes go to one page, the answer for the first is that for all; others
--- are stored byte by byte.
+-- `store` is right: where the bytes go to one page, the answer for the first is that for all;
+-- others are stored byte by byte.
 use mathlib.Core.Path.{_∙_}
 use native.Mathlib.Omega.{arith}
 use borrow.Author.Needs.{needs}
