@@ -41,7 +41,7 @@ fn scaled(a: u32, size: Size) -> u32
     }
 }
 
-// A place behind the word at an address: where it says, and more bytes further on.
+// A place behind the word at an address: the address that it holds, `more` bytes further on.
 fn behind(mem: &[u8], status: u32, map: Map, a: VirtualAddress, more: u32) -> Location
     requires { ⌜ Fits map (now mem) ⌝ }
     ensures { λ r. ⌜ Behind r (readBytes (viewBy status map (now (mem .entry))) Access.Read 4 a) more ⌝ }

@@ -36,7 +36,7 @@ lookupAs m (lookup.At a) = got (foundAt m a)
 lookupAs m (lookup.Alarm x k) = alarm k (x .0)
 
 -- n bytes from x on, through view v of memory m: where they lie in one page, what the lookup of the
--- first says, which answers for all of them (`OnePage` of `machine`)
+-- first says, which answers for all of them (`OnePage` of `machine`); apart: they do not
 abbrev pub WholeOf : View → Memory → VirtualAddress → ℕ → Access → Whole → Type 0
 WholeOf v m x n w (whole.At a) = InOnePage x n × (v x w ≡ got (foundAt m a))
 WholeOf v m x n w (whole.Alarm y k) = InOnePage x n × (v x w ≡ alarm k (y .0))

@@ -36,7 +36,7 @@ addressOn x k = record { 0 = wrap (x .0 + k) }
 -- own address
 abbrev pub answerOn : Memory → ℕ → OrAlarm Found → OrAlarm Found
 answerOn m k (got f) = got (foundAt m (record { 0 = f .real .0 + k }))
-answerOn m k (alarm n a) = alarm n (a + k)
+answerOn m k (alarm q a) = alarm q (a + k)
 
 -- of the number that n bytes make up: "four adjoining real bytes", or "its alarm with its address"
 abbrev pub wholeValue : Memory → ℕ → OrAlarm Found → OrAlarm ℕ
@@ -100,9 +100,9 @@ pub record OnePage : Type 0 where
       → pageOf (addressOn x k) ≡ pageOf x
   pub next-page : (x : VirtualAddress) (n : ℕ) → x .0 < 0x1_0000_0000 → 512 < x .0 % 512 + n
       → pageOf (addressOn x (512 - x .0 % 512)) ≡ pageOf x → ⊥
-  -- ---- addresses that wrap: such bytes are never in one page. On a desk that numbers 1 and 4
-  -- accept, up to 512 of them are never read or written: the first has alarm 8, which ends it
-  -- (those after the wrap may well be found)
+  -- ---- addresses that wrap: such bytes are never in one page. On a desk that numbers 1 and 4 do
+  -- not refuse, up to 512 of them are never read or written: the first has alarm 8, and the first
+  -- alarm ends the read or write (those after the wrap may well be found)
   pub wraps-apart : (x : VirtualAddress) (n : ℕ) → x .0 < 0x1_0000_0000 → 0x1_0000_0000 < x .0 + n
       → InOnePage x n → ⊥
   pub wraps-read : (s : ℕ) (map : Map) (m : Memory) (x : VirtualAddress) (w : Access) (n : ℕ)

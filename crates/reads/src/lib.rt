@@ -79,7 +79,7 @@ pub fn read(mem: &[u8], status: u32, map: Map, x: VirtualAddress, size: Size) ->
     }
 }
 
-// A word at an address. Small enough to become part of its caller.
+// A word at an address. It has one call, so that the compiler makes it part of its caller.
 pub fn read_word(mem: &[u8], status: u32, map: Map, x: VirtualAddress) -> Got
     requires { ⌜ Fits map (now mem) ⌝ }
     ensures { λ r. ⌜ gotAs r ≡ readBytes (viewBy status map (now (mem .entry))) Access.Read 4 x ⌝ }

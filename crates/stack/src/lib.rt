@@ -21,7 +21,7 @@ use reads::Got;
 use results::Out;
 use stores::Stored;
 
-// R0 to R13 and SP lowered once, word by word, to the places from one on.
+// R0 to R13 and SP lowered once, word by word, to the places from `at` on.
 fn lay(bytes: &mut [u8], regs: &[u32; 16], at: usize)
     requires { ⌜ at + 60 ≤ length (now bytes) ⌝ }
     ensures { λ r. ⌜ now (bytes .exit) ≡ sets (now (bytes .entry)) at (bytesOfWords (rowOf (now (regs .entry)))) ⌝ }
@@ -35,7 +35,7 @@ fn lay(bytes: &mut [u8], regs: &[u32; 16], at: usize)
 }
 
 // The words of PUSHR to the addresses from x on, each byte looked up by itself: they may lie in two
-// pages.
+// pages, and no byte is written before all are looked up.
 fn push_each(mem: &mut [u8], regs: &[u32; 16], status: u32, map: Map, x: VirtualAddress) -> Stored
     requires { ⌜ Fits map (now mem) ⌝ }
     ensures { λ r. ⌜ storedAs r (now (mem .exit))

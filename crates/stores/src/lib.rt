@@ -100,7 +100,7 @@ pub fn store(
     }
 }
 
-// A word to an address. Small enough to become part of its caller.
+// A word to an address. It has one call, so that the compiler makes it part of its caller.
 pub fn store_word(mem: &mut [u8], status: u32, map: Map, x: VirtualAddress, value: u32) -> Stored
     requires { ⌜ Fits map (now mem) ⌝ }
     ensures { λ r. ⌜ storedAs r (now (mem .exit)) ≡ storedIn status map (now (mem .entry)) x (bytesOf 4 value) ⌝ }
