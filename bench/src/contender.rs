@@ -1,7 +1,8 @@
-//! The desks that are compared, behind one call.
+//! The desks that are compared, behind one call for runs without breakpoints and one for runs with them.
 
-use crate::state::State;
+use crate::state::{RanTo, State};
 use crate::{plain, proved};
+use midesk::Breakpoint;
 
 #[derive(Clone, Copy, PartialEq, Eq, Debug)]
 pub enum Contender {
@@ -36,6 +37,24 @@ impl Contender {
             Contender::Model => run_model(memory, state, n),
         }
     }
+
+    /// At most `n` steps, with breakpoints.
+    pub fn run_to(self, memory: &mut [u8], state: &mut State, n: u64, points: &[Breakpoint]) -> RanTo {
+        match self {
+            Contender::Proved => proved::run_to(memory, state, n, points),
+            Contender::Bytewise => plain::run_to::<false>(memory, state, n, points),
+            Contender::Word => plain::run_to::<true>(memory, state, n, points),
+            Contender::Model => run_model_to(memory, state, n, points),
+        }
+    }
+
+    /// At most `n` steps: with breakpoints where there is a list, be it empty, else by the call without.
+    pub fn run_with(self, memory: &mut [u8], state: &mut State, n: u64, points: Option<&[Breakpoint]>) -> RanTo {
+        match points {
+            Some(points) => self.run_to(memory, state, n, points),
+            None => Ok((self.run(memory, state, n)?, None)),
+        }
+    }
 }
 
 fn run_model(memory: &mut [u8], state: &mut State, n: u64) -> Result<u64, u32> {
@@ -43,6 +62,17 @@ fn run_model(memory: &mut [u8], state: &mut State, n: u64) -> Result<u64, u32> {
     *state = State::from_model(&ran.state);
     match ran.refusal {
         0 => Ok(ran.count),
+        number => Err(number),
+    }
+}
+
+fn run_model_to(memory: &mut [u8], state: &mut State, n: u64, points: &[Breakpoint]) -> RanTo {
+    let points: Vec<_> =
+        points.iter().map(|point| model::state::Breakpoint { r15: point.r15, armed: point.armed }).collect();
+    let ran = model::breakpoints::run_to(&state.to_model(), memory, n, &points);
+    *state = State::from_model(&ran.state);
+    match ran.refusal {
+        0 => Ok((ran.count, ran.held.map(|place| place as usize))),
         number => Err(number),
     }
 }

@@ -8,7 +8,8 @@ const SYSTEM_BLOCK: u32 = 0;
 const CONTROL_BLOCK: u32 = 256;
 /// The kernel's HALT.
 const ENTRY: u32 = 512;
-const PROGRAM: u32 = 1024;
+/// The first command of the loop.
+pub const PROGRAM: u32 = 1024;
 
 /// The registers before the first of so many turns, with the data at this address; R15 is not set.
 pub fn registers(turns: u32, data: u32) -> [u32; 16] {

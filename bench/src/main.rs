@@ -1,6 +1,8 @@
-//! Speed of the proved desk beside plain Rust, the model and simh's VAX, and of the proved loads, of a list and of two,
-//! beside plain Rust.
+//! Speed of the proved desk beside plain Rust, the model and simh's VAX; of the proved loads, of a list and of two, and
+//! of runs with breakpoints, beside plain Rust.
 
+mod breakpoint_runs;
+mod breakpoints;
 mod check;
 mod clock;
 mod contender;
@@ -17,6 +19,8 @@ mod proved;
 #[cfg(test)]
 mod random;
 #[cfg(test)]
+mod random_breakpoints;
+#[cfg(test)]
 mod random_lists;
 #[cfg(test)]
 mod random_pairs;
@@ -25,6 +29,7 @@ mod state;
 mod table;
 mod vax;
 
+use breakpoints::Breakpoints;
 use contender::Contender;
 use layout::Bench;
 use lists::Lists;
@@ -37,7 +42,7 @@ use std::process::ExitCode;
 
 fn main() -> ExitCode {
     let done = options::parse(std::env::args().skip(1)).and_then(|options| match options {
-        Options::Commands { which, contender, count } => run_once(which, contender, count),
+        Options::Commands { which, breakpoints, contender, count } => run_once(which, breakpoints, contender, count),
         Options::Loads { kind, loader, count } => load_once(kind, loader, count),
         Options::Calls { kind, loader, count } => load_both_once(kind, loader, count),
         Options::Tables { wanted, rounds } => print_tables(&wanted, rounds),
@@ -52,15 +57,13 @@ fn main() -> ExitCode {
 }
 
 /// One loop, once, for a profiler.
-fn run_once(which: Loop, contender: Contender, count: u64) -> Result<(), String> {
+fn run_once(which: Loop, breakpoints: Option<Breakpoints>, contender: Contender, count: u64) -> Result<(), String> {
     let mut bench = Bench::new(which, LENGTHS[0]);
-    let mut state = bench.start(u32::MAX);
-    let before = clock::thread();
-    let steps = contender.run(&mut bench.memory, &mut state, count);
-    let seconds = clock::thread() - before;
-    let steps = steps.map_err(|number| format!("refused with {number}"))?;
-    let speed = steps as f64 / seconds / 1e6;
-    println!("{} {}: {steps} commands, {seconds:.3} s, {speed:.1} M/s", contender.name(), which.name());
+    let points = breakpoints.map(|kind| kind.points(which.kind));
+    let seconds = measure::slice(&mut bench, contender, points.as_deref(), count)?;
+    let speed = count as f64 / seconds / 1e6;
+    let with = breakpoints.map_or(String::new(), |kind| format!(", breakpoints {}", kind.name()));
+    println!("{} {}{with}: {count} commands, {seconds:.3} s, {speed:.1} M/s", contender.name(), which.name());
     Ok(())
 }
 
@@ -92,6 +95,11 @@ fn print_tables(wanted: &Wanted, rounds: Option<usize>) -> Result<(), String> {
     }
     for kind in &wanted.pairs {
         check::check_pairs(*kind)?;
+    }
+    for which in &wanted.breakpoint_loops {
+        for kind in &wanted.breakpoints {
+            check::check_breakpoints(*which, *kind)?;
+        }
     }
     let simulators = if wanted.loops.is_empty() { vec![] } else { simh::installed() };
     let results = measure::measure(wanted, &simulators, rounds)?;

@@ -1,7 +1,10 @@
 //! Rounds of slices: in each round every desk runs every loop in each of its memories for a while, with the simulators
-//! between, and every loader loads the lists and the pairs of lists of every kind, so that what else the machine does
-//! falls on all alike. Ratios are taken within a round of a loop or a kind, which lasts less than a second.
+//! between, every loader loads the lists and the pairs of lists of every kind, and the loops run with breakpoints, so
+//! that what else the machine does falls on all alike. Ratios are taken within a round of a loop or a kind, which lasts
+//! less than a second.
 
+use crate::breakpoint_runs::{BreakpointTrack, MeasuredBreakpoints};
+use crate::breakpoints::Breakpoints;
 use crate::clock;
 use crate::contender::{Contender, CONTENDERS};
 use crate::layout::Bench;
@@ -10,6 +13,7 @@ use crate::loader::{Loader, LOADERS};
 use crate::loops::{Loop, LENGTHS};
 use crate::pairs::{self, Pair, Pairs};
 use crate::simh::Vax;
+use midesk::Breakpoint;
 use std::time::{Duration, Instant};
 
 /// Where the number of rounds is not given: the time after which none begins, and how many there are at least.
@@ -18,12 +22,12 @@ const LEAST_ROUNDS: usize = 8;
 
 /// CPU seconds of a slice of a desk or a loader. A round has three of them in each memory, with the simulators between.
 const SLICE: f64 = 0.02;
-const SLICES: usize = 3;
+pub const SLICES: usize = 3;
 /// CPU seconds of a slice of a simulator: longer, for its start-up is taken off. A round has one for each.
 const SLICE_SIMH: f64 = 0.15;
 
 /// Commands a second, or bytes put, or calls.
-type Speeds = Vec<f64>;
+pub type Speeds = Vec<f64>;
 
 /// What was measured of a loop.
 pub struct Measured {
@@ -53,6 +57,9 @@ pub struct Wanted {
     pub loops: Vec<Loop>,
     pub lists: Vec<Lists>,
     pub pairs: Vec<Pairs>,
+    /// The loops that run with breakpoints, and the lists that they run with.
+    pub breakpoint_loops: Vec<Loop>,
+    pub breakpoints: Vec<Breakpoints>,
 }
 
 /// All that was measured.
@@ -60,10 +67,11 @@ pub struct Results {
     pub loops: Vec<Measured>,
     pub lists: Vec<MeasuredLists>,
     pub pairs: Vec<MeasuredPairs>,
+    pub breakpoints: Vec<MeasuredBreakpoints>,
 }
 
 /// The places of so many contenders in the order of a part of a round: another one begins each time.
-fn in_turn(contenders: usize, part: usize, round: usize) -> impl Iterator<Item = usize> {
+pub fn in_turn(contenders: usize, part: usize, round: usize) -> impl Iterator<Item = usize> {
     (0..contenders).map(move |i| (i + part + round) % contenders)
 }
 
@@ -77,26 +85,40 @@ struct Track {
     measured: Measured,
 }
 
-/// CPU seconds of so many commands.
-fn slice(bench: &mut Bench, contender: Contender, count: u64) -> Result<f64, String> {
+/// CPU seconds of so many commands, with breakpoints where there is a list.
+pub fn slice(
+    bench: &mut Bench,
+    contender: Contender,
+    points: Option<&[Breakpoint]>,
+    count: u64,
+) -> Result<f64, String> {
     let mut state = bench.start(u32::MAX);
     let before = clock::thread();
-    let steps = contender.run(&mut bench.memory, &mut state, count);
+    let answer = contender.run_with(&mut bench.memory, &mut state, count, points);
     let seconds = clock::thread() - before;
-    if steps != Ok(count) {
-        return Err(format!("{} {}: {steps:?} steps of {count}", contender.name(), bench.which.name()));
+    if answer != Ok((count, None)) {
+        return Err(format!("{} {}: {answer:?} for {count} steps", contender.name(), bench.which.name()));
     }
     Ok(seconds)
 }
 
+/// The commands of a slice.
+pub fn commands_of_slice(
+    bench: &mut Bench,
+    contender: Contender,
+    points: Option<&[Breakpoint]>,
+) -> Result<u64, String> {
+    const FIRST: u64 = 50_000;
+    let seconds = slice(bench, contender, points, FIRST)?;
+    Ok((FIRST as f64 * SLICE / seconds) as u64)
+}
+
 impl Track {
     fn new(which: Loop, simulators: &[&'static str]) -> Result<Track, String> {
-        const FIRST: u64 = 50_000;
         let mut benches: Vec<Bench> = which.lengths().iter().map(|length| Bench::new(which, *length)).collect();
         let mut counts = [0; CONTENDERS.len()];
         for (count, contender) in counts.iter_mut().zip(CONTENDERS) {
-            let seconds = slice(&mut benches[0], contender, FIRST)?;
-            *count = (FIRST as f64 * SLICE / seconds) as u64;
+            *count = commands_of_slice(&mut benches[0], contender, None)?;
         }
         let mut vaxes = vec![];
         for simulator in simulators {
@@ -112,7 +134,7 @@ impl Track {
         for part in 0..SLICES {
             for i in in_turn(CONTENDERS.len(), part, round) {
                 for (bench, seconds) in self.benches.iter_mut().zip(&mut seconds) {
-                    seconds[i] += slice(bench, CONTENDERS[i], self.counts[i])?;
+                    seconds[i] += slice(bench, CONTENDERS[i], None, self.counts[i])?;
                 }
             }
             if let Some(vax) = self.vaxes.get(part) {
@@ -259,6 +281,10 @@ pub fn measure(wanted: &Wanted, simulators: &[&'static str], rounds: Option<usiz
     for kind in &wanted.pairs {
         pair_tracks.push(PairTrack::new(*kind)?);
     }
+    let mut breakpoint_tracks = vec![];
+    for which in &wanted.breakpoint_loops {
+        breakpoint_tracks.push(BreakpointTrack::new(*which, &wanted.breakpoints)?);
+    }
     let mut round = 0;
     while rounds.map_or(round < LEAST_ROUNDS || begin.elapsed() < TIME, |rounds| round < rounds) {
         for track in &mut tracks {
@@ -270,11 +296,15 @@ pub fn measure(wanted: &Wanted, simulators: &[&'static str], rounds: Option<usiz
         for track in &mut pair_tracks {
             track.round(round)?;
         }
+        for track in &mut breakpoint_tracks {
+            track.round(round)?;
+        }
         round += 1;
     }
     Ok(Results {
         loops: tracks.into_iter().map(|track| track.measured).collect(),
         lists: list_tracks.into_iter().map(|track| track.measured).collect(),
         pairs: pair_tracks.into_iter().map(|track| track.measured).collect(),
+        breakpoints: breakpoint_tracks.into_iter().map(|track| track.measured).collect(),
     })
 }

@@ -173,9 +173,8 @@ const THREE: Program = &[
     (HALT, &[]),
 ];
 
-/// The bytes of a loop that begins at `start`.
-pub fn program(kind: Kind, start: u32) -> Vec<u8> {
-    let commands = match kind {
+fn commands(kind: Kind) -> Program {
+    match kind {
         Kind::Register => REGISTER,
         Kind::Memory => MEMORY,
         Kind::Small => SMALL,
@@ -183,16 +182,30 @@ pub fn program(kind: Kind, start: u32) -> Vec<u8> {
         Kind::Forms => FORMS,
         Kind::Jumps => JUMPS,
         Kind::Three => THREE,
-    };
-    let length = |operands: &[Operand]| 1 + 6 * operands.len() as u32;
-    let address = |place: usize| start + commands[..place].iter().map(|(_, operands)| length(operands)).sum::<u32>();
+    }
+}
+
+/// The addresses of the commands of a loop that begins at `start`, the HALTs among them.
+pub fn addresses(kind: Kind, start: u32) -> Vec<u32> {
+    let mut next = start;
+    let mut addresses = vec![];
+    for (_, operands) in commands(kind) {
+        addresses.push(next);
+        next += 1 + 6 * operands.len() as u32;
+    }
+    addresses
+}
+
+/// The bytes of a loop that begins at `start`.
+pub fn program(kind: Kind, start: u32) -> Vec<u8> {
+    let addresses = addresses(kind, start);
     let mut bytes = vec![];
-    for (code, operands) in commands {
+    for (code, operands) in commands(kind) {
         bytes.push(*code);
         for operand in *operands {
             let (form, x, y, z) = match *operand {
                 Form(form, x, y, z) => (form, x, y, z),
-                To(place) => (0, 0, 0, address(place)),
+                To(place) => (0, 0, 0, addresses[place]),
             };
             bytes.extend([form, x << 4 | y]);
             bytes.extend(z.to_be_bytes());

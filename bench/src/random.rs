@@ -75,7 +75,7 @@ fn get(memory: &[u8], address: u32) -> u32 {
 }
 
 /// Memory and state with a program somewhere in pages 2 to 4.
-fn case(rng: &mut Rng) -> (Vec<u8>, State) {
+pub fn case(rng: &mut Rng) -> (Vec<u8>, State) {
     let mut memory = vec![0; LENGTH];
     for byte in &mut memory {
         if rng.chance(30) {
@@ -136,8 +136,13 @@ fn fetched(memory: &[u8], state: &State, address: u32) -> Result<usize, u32> {
 }
 
 /// The command byte that a step of this desk would fetch, if it is to be had.
-fn next_byte(memory: &[u8], state: &State) -> Option<u8> {
+pub fn next_byte(memory: &[u8], state: &State) -> Option<u8> {
     fetched(memory, state, state.registers[15]).ok().and_then(|place| memory.get(place).copied())
+}
+
+/// Whether it is the byte of a command that plain Rust does not cover.
+pub fn uncovered(byte: u8) -> bool {
+    model::code::decode(byte).is_some() && !plain::covers(byte)
 }
 
 #[test]
@@ -152,7 +157,7 @@ fn random_programs() {
         let mut steps = 0;
         while steps < 12 && state.stopped == RUNNING {
             let byte = next_byte(&memory, &state);
-            if byte.is_some_and(|b| model::code::decode(b).is_some() && !plain::covers(b)) {
+            if byte.is_some_and(uncovered) {
                 break;
             }
             let before = (memory.clone(), state);
@@ -196,26 +201,31 @@ fn random_programs() {
     }
 }
 
+/// The same with another length or other values in the state, which mostly are refused.
+pub fn damaged(rng: &mut Rng) -> (Vec<u8>, State) {
+    let (mut memory, mut state) = case(rng);
+    memory.truncate(if rng.chance(20) { rng.below(LENGTH as u32) as usize } else { LENGTH });
+    for _ in 0..1 + rng.below(2) {
+        let value = if rng.chance(50) { rng.word() } else { LENGTH as u32 - 4 * rng.below(80) };
+        match rng.below(7) {
+            0 => state.status = value,
+            1 => state.map_base = value,
+            2 => state.map_length = value,
+            3 => state.system_block = value,
+            4 => state.control_block = value,
+            5 => state.stopped = value,
+            _ => state.pending = value as u16,
+        }
+    }
+    (memory, state)
+}
+
 #[test]
 fn refusals() {
     let mut rng = Rng::new(2);
     let mut numbers = [0u64; 8];
     for _ in 0..20_000 {
-        let (memory, good) = case(&mut rng);
-        let mut memory = memory[..if rng.chance(20) { rng.below(LENGTH as u32) as usize } else { LENGTH }].to_vec();
-        let mut state = good;
-        for _ in 0..1 + rng.below(2) {
-            let value = if rng.chance(50) { rng.word() } else { LENGTH as u32 - 4 * rng.below(80) };
-            match rng.below(7) {
-                0 => state.status = value,
-                1 => state.map_base = value,
-                2 => state.map_length = value,
-                3 => state.system_block = value,
-                4 => state.control_block = value,
-                5 => state.stopped = value,
-                _ => state.pending = value as u16,
-            }
-        }
+        let (mut memory, mut state) = damaged(&mut rng);
         let n = u64::from(rng.below(2));
         let before = (memory.clone(), state);
         let answer = Contender::Model.run(&mut memory, &mut state, n);

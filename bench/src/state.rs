@@ -1,10 +1,13 @@
-//! The desk's state as the plain desk has it, and the model's.
+//! The desk's state as the plain desk has it, and the model's; what a run with breakpoints answers.
 
 use model::state::Mark;
 
 /// The number in `stopped` while the desk runs.
 pub const RUNNING: u32 = u32::MAX;
 pub const KERNEL: u32 = 0x8000_0000;
+
+/// The steps that a run made and, where a breakpoint held it, its place in the list; or the number of the refusal.
+pub type RanTo = Result<(u64, Option<usize>), u32>;
 
 #[derive(Clone, Copy, PartialEq, Eq, Debug)]
 pub struct State {

@@ -1,5 +1,7 @@
-//! The tables: the loops, then the load lists, then the pairs of them.
+//! The tables: the loops, then the load lists, then the pairs of them, then the loops with breakpoints.
 
+use crate::breakpoint_runs::{MeasuredBreakpoints, RUN};
+use crate::breakpoints::Breakpoints;
 use crate::contender::{Contender, CONTENDERS};
 use crate::loader::LOADERS;
 use crate::loops::LENGTHS;
@@ -111,14 +113,37 @@ impl MeasuredPairs {
 const PAIR_HEAD: [(&str, usize); LIST_COLUMNS] =
     [("pairs", 6), ("memory", 7), (LOADERS[0].name(), 8), (LOADERS[1].name(), 8), ("proved/plain", 16)];
 
-fn line<const COLUMNS: usize>(head: &[(&str, usize); COLUMNS], cells: &[String; COLUMNS]) {
+impl MeasuredBreakpoints {
+    /// The lists with their headings beside plain Rust.
+    fn beside_plain(&self) -> impl Iterator<Item = (Breakpoints, &'static str)> + '_ {
+        self.kinds.iter().filter_map(|kind| Some((*kind, kind.beside_plain()?)))
+    }
+
+    fn head(&self) -> Vec<(&'static str, usize)> {
+        let lists = self.kinds.iter().map(|kind| kind.name()).chain(self.beside_plain().map(|(_, name)| name));
+        [("loop", 8), ("mode", 6), ("run", 6)].into_iter().chain(lists.map(|name| (name, 16))).collect()
+    }
+
+    fn row(&self) -> Vec<String> {
+        let run = self.speeds(RUN);
+        let proved = |kind| self.speeds((Contender::Proved, Some(kind)));
+        let mut row = vec![self.which.kind.title().into(), self.which.mode.name().into(), best(run)];
+        row.extend(self.kinds.iter().map(|kind| ratio(proved(*kind), run)));
+        row.extend(
+            self.beside_plain().map(|(kind, _)| ratio(proved(kind), self.speeds((Contender::Word, Some(kind))))),
+        );
+        row
+    }
+}
+
+fn line(head: &[(&str, usize)], cells: &[String]) {
     let cells: Vec<String> = cells.iter().zip(head).map(|(cell, (_, width))| format!("{cell:>width$}")).collect();
     println!("| {} |", cells.join(" | "));
 }
 
-fn head_lines<const COLUMNS: usize>(head: &[(&str, usize); COLUMNS]) {
-    line(head, &head.map(|(name, _)| name.into()));
-    line(head, &head.map(|(_, width)| "-".repeat(width)));
+fn head_lines(head: &[(&str, usize)]) {
+    line(head, &head.iter().map(|(name, _)| String::from(*name)).collect::<Vec<_>>());
+    line(head, &head.iter().map(|(_, width)| "-".repeat(*width)).collect::<Vec<_>>());
 }
 
 /// The tables that have rows.
@@ -136,6 +161,11 @@ pub fn print_all(results: &Results, simulators: &[&str]) {
     if !results.pairs.is_empty() {
         print!("{between}");
         print_pairs(&results.pairs);
+        between = "\n";
+    }
+    if let Some(first) = results.breakpoints.first() {
+        print!("{between}");
+        print_breakpoints(&results.breakpoints, &first.head());
     }
 }
 
@@ -205,4 +235,26 @@ fn print_pairs(pairs: &[MeasuredPairs]) {
     }
     println!();
     println!("plain: safe Rust that finds a clash in two rounds over the scratch, as the proved load does.");
+}
+
+fn print_breakpoints(loops: &[MeasuredBreakpoints], head: &[(&str, usize)]) {
+    let rounds = loops.first().map_or(0, |measured| measured.speeds(RUN).len());
+    println!("Runs with breakpoints that are not met, {} of memory, {rounds} rounds.", size(LENGTHS[0]));
+    println!(
+        "run: the proved desk without breakpoints, million commands a second of CPU time, the best of the rounds."
+    );
+    println!("The lists: the ratio to it of the proved desk's speed with breakpoints, median (quartiles).");
+    println!("../plain: the ratio to plain Rust with the same list; above 1 the proved desk is faster.");
+    println!();
+    head_lines(head);
+    for measured in loops {
+        line(head, &measured.row());
+    }
+    println!();
+    println!(
+        "none: an empty list. off: 64, all off. one: an armed one. near: an armed one whose address is, modulo 64,"
+    );
+    println!(
+        "that of a command of the loop. 64: 64 armed ones. plain: word, which searches the list before each step."
+    );
 }

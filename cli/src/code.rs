@@ -2,6 +2,7 @@
 
 use crate::decode;
 use crate::effect;
+use crate::image::Program;
 use crate::machine::{self, Machine};
 use crate::trial;
 use crate::view;
@@ -42,7 +43,7 @@ fn found(fresh: &Machine) -> BTreeSet<u32> {
     follow(fresh, desk, places.collect(), &mut code);
     for program in &fresh.known.programs {
         let block = program.control_block;
-        let user = in_program(desk, block, program.map_base, program.map_length);
+        let user = in_program(desk, program);
         let start = view::word(&fresh.memory, block.wrapping_add(60));
         let places = trial.user.range((block, 0)..=(block, u32::MAX)).map(|(_, address)| *address);
         follow(fresh, &user, places.chain(start).collect(), &mut code);
@@ -50,12 +51,19 @@ fn found(fresh: &Machine) -> BTreeSet<u32> {
     code
 }
 
+/// The desk as if the kernel ran: its addresses are real ones.
+pub fn in_kernel(desk: &Desk) -> Desk {
+    let mut desk = desk.clone();
+    desk.set_status(numbers::KERNEL);
+    desk
+}
+
 /// The desk as if a program ran: its addresses are the program's.
-pub fn in_program(desk: &Desk, block: u32, map_base: u32, map_length: u32) -> Desk {
+pub fn in_program(desk: &Desk, program: &Program) -> Desk {
     let mut desk = desk.clone();
     desk.set_status(0);
-    desk.set_map(map_base, map_length);
-    desk.set_blocks(desk.system_block(), block);
+    desk.set_map(program.map_base, program.map_length);
+    desk.set_blocks(desk.system_block(), program.control_block);
     desk
 }
 

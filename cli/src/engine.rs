@@ -5,7 +5,7 @@ use crate::plan::{Plan, Until};
 use crate::progress::Progress;
 use crate::report::{End, Entry};
 use crate::show::Show;
-use midesk::{Desk, Event, Mark, Refusal};
+use midesk::{Desk, Event, Mark, Refusal, RunEnd};
 use std::io;
 
 /// What came of a run.
@@ -16,6 +16,8 @@ pub struct Ran {
     pub entry: Option<Entry>,
     /// The desk before the last step but one, where it is known: where the last one came from.
     pub origin: Option<Desk>,
+    /// How many of the plan's requests were made.
+    pub requests: usize,
 }
 
 /// So many steps are made singly at the beginning, and again at the end of a long run, to see the kernel entries there.
@@ -35,7 +37,7 @@ pub fn run(machine: &mut Machine, plan: &Plan, show: &mut Show) -> io::Result<Ra
         None => runner.in_pieces(),
     };
     let [origin, _] = runner.before;
-    Ok(Ran { end, entry: runner.entry, origin })
+    Ok(Ran { end, entry: runner.entry, origin, requests: runner.requests })
 }
 
 struct Runner<'a> {
@@ -58,8 +60,8 @@ impl Runner<'_> {
             if self.machine.steps >= up_to {
                 return Ok(None);
             }
-            if let Err(refusal) = self.request() {
-                return Ok(Some(End::Refused(refusal)));
+            if let Some(end) = self.before_step() {
+                return Ok(Some(end));
             }
             let event = match self.step(show)? {
                 Ok(event) => event,
@@ -116,6 +118,17 @@ impl Runner<'_> {
         Some(End::Held(until.words(&self.machine.known, &self.machine.desk)))
     }
 
+    /// Makes the requests of the next step; the end of the run, where a breakpoint holds it then. None does before the
+    /// first step.
+    fn before_step(&mut self) -> Option<End> {
+        if let Err(refusal) = self.request() {
+            return Some(End::Refused(refusal));
+        }
+        let desk = &self.machine.desk;
+        let breakpoint = self.plan.breakpoints.holding(desk).filter(|_| self.machine.steps > 0)?;
+        Some(breakpoint.end(&self.machine.known, desk))
+    }
+
     /// Makes the requests whose step is the next one.
     fn request(&mut self) -> Result<(), Refusal> {
         while let Some((step, level)) = self.plan.requests.get(self.requests) {
@@ -131,35 +144,52 @@ impl Runner<'_> {
     /// Large pieces up to the end.
     fn in_pieces(&mut self) -> End {
         let mut progress = Progress::start(self.machine.steps);
+        let breakpoints = self.plan.breakpoints.of_library();
         let mut kept = match self.machine.memory.len() <= COPIED {
             true => self.machine.memory.clone(),
             false => Vec::new(),
         };
-        self.entry = None;
-        self.before = [None, None];
-        while self.machine.steps < self.plan.limit {
-            if let Err(refusal) = self.request() {
-                return End::Refused(refusal);
+        let (mut before, mut made) = (self.machine.desk.clone(), 0);
+        let end = loop {
+            if self.machine.steps >= self.plan.limit {
+                return End::Limit;
+            }
+            if let Some(end) = self.before_step() {
+                break end;
             }
             if !kept.is_empty() {
                 kept.copy_from_slice(&self.machine.memory);
             }
-            let before = self.machine.desk.clone();
-            let wanted = self.next_piece();
-            let made = match self.machine.desk.run(&mut self.machine.memory, wanted) {
+            before = self.machine.desk.clone();
+            made = match self.piece(&breakpoints) {
                 Ok(made) => made,
                 Err(refusal) => return End::Refused(refusal),
             };
-            self.machine.steps += made;
             progress.show(self.machine.steps);
             if let Mark::Stopped(number) = self.machine.desk.mark() {
-                if !kept.is_empty() {
-                    self.last_steps_again(before, &kept, made);
-                }
-                return End::Stopped(number);
+                break End::Stopped(number);
+            }
+        };
+        if made > 0 && !kept.is_empty() {
+            self.last_steps_again(before, &kept, made);
+        }
+        end
+    }
+
+    /// Makes the steps of the next piece, fewer where the desk stops or a breakpoint holds it; answers how many.
+    fn piece(&mut self, breakpoints: &[midesk::Breakpoint]) -> Result<u64, Refusal> {
+        (self.entry, self.before) = (None, [None, None]);
+        let first = self.machine.steps;
+        let last = first + self.next_piece();
+        loop {
+            let Machine { desk, memory, steps, .. } = &mut *self.machine;
+            let (made, end) = desk.run_to(memory, last - *steps, breakpoints)?;
+            *steps += made;
+            // Held in another mode or program than the name's: goes on.
+            if end == RunEnd::Ended || self.plan.breakpoints.holding(desk).is_some() {
+                return Ok(*steps - first);
             }
         }
-        End::Limit
     }
 
     /// The steps of the next piece: at most up to the limit, and to the step before the next request.
@@ -169,18 +199,20 @@ impl Runner<'_> {
     }
 
     /// Makes the last steps of a piece once more, singly, to see their kernel entries. What a step does depends on desk and
-    /// memory alone, so they end as before.
+    /// memory alone, so they end as before; the desk at the end may have got a request since.
     fn last_steps_again(&mut self, before: Desk, memory: &[u8], made: u64) {
-        self.machine.desk = before;
+        let end = std::mem::replace(&mut self.machine.desk, before);
+        let steps = self.machine.steps;
         self.machine.memory.copy_from_slice(memory);
         self.machine.steps -= made;
         let skipped = self.machine.desk.run(&mut self.machine.memory, made.saturating_sub(SINGLY)).unwrap_or(0);
         self.machine.steps += skipped;
-        while self.machine.desk.is_running() {
+        while self.machine.steps < steps {
             self.remember();
-            let Ok(event) = self.machine.desk.step(&mut self.machine.memory) else { return };
+            let Ok(event) = self.machine.desk.step(&mut self.machine.memory) else { break };
             self.machine.steps += 1;
             self.judged(event);
         }
+        self.machine.desk = end;
     }
 }

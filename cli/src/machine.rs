@@ -174,6 +174,11 @@ impl Known {
         options::examples(text, names.flat_map(Names::iter))
     }
 
+    /// The sentence for what is no address; its example is a name that the file has.
+    pub fn no_address(&self, text: &str) -> String {
+        format!("'{}' is no address: {}", options::shown(text), self.address_words(text))
+    }
+
     /// The line of the source that gave the byte at a real address.
     pub fn line(&self, real: u32) -> Option<&SourceLine> {
         self.lines.iter().find(|line| line.address == real)

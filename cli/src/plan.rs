@@ -1,9 +1,11 @@
 //! What a run shall do: its limit, requests, where it ends, what is shown. Read from the options of `desk run`.
 
+use crate::breakpoints::Breakpoints;
+use crate::code;
 use crate::diagnose::Finding;
-use crate::machine::{self, Known, Machine};
-use crate::notation::hexadecimal;
+use crate::machine::{Known, Machine};
 use crate::options::{self, Given};
+use crate::place::Place;
 use crate::report::End;
 use crate::words;
 use midesk::Desk;
@@ -20,6 +22,7 @@ pub struct Plan {
     /// Step and level, earliest first.
     pub requests: Vec<(u64, u32)>,
     pub until: Option<Until>,
+    pub breakpoints: Breakpoints,
     pub trace: bool,
     pub json: bool,
     /// Address and count of each dump.
@@ -35,46 +38,6 @@ pub enum Until {
     Place(Place),
 }
 
-/// A value of R15; of a name also in which mode, and in user mode with which control block.
-#[derive(Clone, PartialEq, Eq, Debug)]
-pub struct Place {
-    pub address: u32,
-    pub mode: Option<Mode>,
-}
-
-#[derive(Clone, Copy, PartialEq, Eq, Debug)]
-pub enum Mode {
-    Kernel,
-    User { control_block: u32 },
-}
-
-impl Place {
-    /// `the command at loop (20Dh) of program A`.
-    fn words(&self, known: &Known) -> String {
-        let of = |block: u32| known.programs.iter().find(|program| program.control_block == block);
-        match self.mode {
-            None => format!("the command at {}", hexadecimal(self.address)),
-            Some(Mode::Kernel) => format!("the kernel's command at {}", known.real_place(self.address)),
-            Some(Mode::User { control_block }) => match of(control_block) {
-                Some(program) => {
-                    let at = machine::place(&program.names, self.address);
-                    format!("the command at {at} of program {}", program.name)
-                }
-                None => format!("the command at {}", hexadecimal(self.address)),
-            },
-        }
-    }
-
-    pub fn is_at(&self, desk: &Desk) -> bool {
-        let mode = match self.mode {
-            None => true,
-            Some(Mode::Kernel) => desk.is_kernel(),
-            Some(Mode::User { control_block }) => !desk.is_kernel() && desk.control_block() == control_block,
-        };
-        mode && desk.register(15) == self.address
-    }
-}
-
 impl Plan {
     pub fn of(given: &Given, machine: &Machine) -> Result<Plan, String> {
         let mut requests = given.values("--request").map(request).collect::<Result<Vec<_>, _>>()?;
@@ -83,6 +46,7 @@ impl Plan {
             limit: given.count("--steps")?.unwrap_or(LIMIT),
             requests,
             until: given.value("--until").map(|text| until(text, &machine.known)).transpose()?,
+            breakpoints: breakpoints(given, machine)?,
             trace: given.has("--trace"),
             json: given.has("--json"),
             dumps: given.values("--dump").map(|text| dump(text, machine)).collect::<Result<_, _>>()?,
@@ -112,28 +76,25 @@ pub fn until(text: &str, known: &Known) -> Result<Until, String> {
             cause.ok_or_else(|| format!("'{}' names no cause: 1, 2, 8 to 15 or 17 to 31", options::shown(text)))?;
         return Ok(Until::Entry(Some(cause)));
     }
-    place(text, known).map(Until::Place)
-}
-
-/// A place in the code: a name of the kernel's, else of a program's, else a number.
-pub fn place(text: &str, known: &Known) -> Result<Place, String> {
-    let none = crate::names::Names::none();
-    if let Some(address) = options::address(text, &none) {
-        if known.real.address_of(text).is_none() {
-            return Ok(Place { address, mode: None });
-        }
-    }
-    if let Some(address) = options::address(text, &known.real) {
-        return Ok(Place { address, mode: Some(Mode::Kernel) });
-    }
-    let of_program = known.programs.iter().find_map(|program| {
-        let address = options::address(text, &program.names)?;
-        Some(Place { address, mode: Some(Mode::User { control_block: program.control_block }) })
-    });
-    of_program.ok_or_else(|| {
+    Place::of(text, known).map(Until::Place).ok_or_else(|| {
         let address = known.address_words(text);
         format!("'{}' is neither `entry` nor an address: {address}", options::shown(text))
     })
+}
+
+/// The breakpoints of a fresh machine.
+fn breakpoints(given: &Given, machine: &Machine) -> Result<Breakpoints, String> {
+    let mut breakpoints = Breakpoints::default();
+    if given.has("--break") {
+        let code = code::known(machine);
+        for text in given.values("--break") {
+            let place = Place::of(text, &machine.known);
+            let place = place.ok_or_else(|| format!("--break: {}", machine.known.no_address(text)))?;
+            let doubt = place.doubt(machine, &code);
+            breakpoints.set(place, doubt);
+        }
+    }
+    Ok(breakpoints)
 }
 
 fn dump(text: &str, machine: &Machine) -> Result<(u32, u32), String> {
@@ -143,22 +104,15 @@ fn dump(text: &str, machine: &Machine) -> Result<(u32, u32), String> {
     };
     let address = machine.known.real_address(&machine.memory, from);
     let count = count.ok_or_else(|| format!("--dump {}: the count is no number such as 80", options::shown(text)))?;
-    let address = address.ok_or_else(|| {
-        format!(
-            "--dump {}: '{}' is no address: {}",
-            options::shown(text),
-            options::shown(from),
-            machine.known.address_words(from)
-        )
-    })?;
-    Ok((address, count))
+    let no_address = || format!("--dump {}: {}", options::shown(text), machine.known.no_address(from));
+    Ok((address.ok_or_else(no_address)?, count))
 }
 
 impl Until {
     /// Why a run ended and was not held; none where it was.
     pub fn not_held(&self, known: &Known, end: &End, finding: Option<Finding>) -> Option<String> {
         let became = match (end, finding) {
-            (End::Held(_) | End::Refused(_), _) => return None,
+            (End::Held(_) | End::Breakpoint(..) | End::Refused(_), _) => return None,
             (End::Stopped(16), Some(Finding::Cause(cause, _))) => Some(cause),
             _ => None,
         };
@@ -179,10 +133,7 @@ impl Until {
         match self {
             Until::Entry(None) => "at a kernel entry".to_string(),
             Until::Entry(Some(cause)) => format!("at a kernel entry of cause {cause}"),
-            Until::Place(place) => match known.names(desk).name_of(place.address) {
-                Some(name) => format!("before the command at {name} ({})", hexadecimal(place.address)),
-                None => format!("before the command at {}", hexadecimal(place.address)),
-            },
+            Until::Place(place) => place.before(known, desk),
         }
     }
 }

@@ -17,6 +17,8 @@ pub enum End {
     Limit,
     /// What was waited for is reached.
     Held(String),
+    /// The breakpoint of this number holds it; where.
+    Breakpoint(u32, String),
     Refused(Refusal),
 }
 
@@ -93,6 +95,7 @@ pub fn headline(machine: &Machine, end: &End, finding: Option<Finding>) -> Strin
         End::Stopped(number) => format!("stop {number} after {steps}: {}", stop(*number, finding)),
         End::Limit => format!("still running after {steps}, the limit"),
         End::Held(what) => format!("held after {steps}: {what}"),
+        End::Breakpoint(number, place) => format!("held after {steps}: at breakpoint {number}, {place}"),
         End::Refused(refusal) => format!("refusal {} after {steps}: {refusal}", refusal.number()),
     }
 }

@@ -8,6 +8,7 @@ use crate::output;
 use crate::plan::Plan;
 use crate::setup;
 use crate::show::Show;
+use midesk::Refusal;
 use std::io::{self, BufWriter, Write};
 
 /// `desk run FILE [OPTION]..`.
@@ -22,9 +23,16 @@ pub fn main(arguments: &[String]) -> u8 {
 /// The machine and what it shall do; else the exit status, after a sentence.
 fn begun(arguments: &[String]) -> Result<(Machine, Plan), u8> {
     let given = options::take("run", arguments)?;
-    let machine = setup::machine("run", &given)?;
+    let mut machine = setup::machine("run", &given)?;
     let plan = Plan::of(&given, &machine).map_err(|sentence| options::usage("run", &sentence))?;
-    Ok((machine, plan))
+    // A run of no steps changes nothing and makes all checks.
+    let breakpoints = plan.breakpoints.of_library();
+    match machine.desk.run_to(&mut machine.memory, 0, &breakpoints) {
+        Err(refusal @ Refusal::Breakpoints) => {
+            Err(setup::refused("run", refusal, &format!("--break is given {} times", breakpoints.len())))
+        }
+        _ => Ok((machine, plan)),
+    }
 }
 
 fn run(mut machine: Machine, plan: &Plan) -> u8 {

@@ -77,9 +77,14 @@ pub fn machine(verb: &str, given: &Given) -> Result<Machine, u8> {
             Refusal::SystemBlock => format!("it is at {system:X}h with 256 bytes, the memory has {length:X}h"),
             _ => format!("it is at {control:X}h with 80 bytes, the memory has {length:X}h"),
         };
-        output::err(&format!("desk {verb}: refusal {}: {refusal} ({what})\n", refusal.number()));
-        refusal_status(refusal)
+        refused(verb, refusal, &what)
     })
+}
+
+/// Tells a refusal and what it is about, and gives the exit status.
+pub fn refused(verb: &str, refusal: Refusal, what: &str) -> u8 {
+    output::err(&format!("desk {verb}: refusal {}: {refusal} ({what})\n", refusal.number()));
+    refusal_status(refusal)
 }
 
 /// The length that --memory gives.

@@ -61,6 +61,7 @@ impl<'a> Show<'a> {
 pub fn status(end: &End) -> u8 {
     match end {
         End::Stopped(number) => u8::try_from(*number).unwrap_or(u8::MAX),
+        End::Breakpoint(..) => 123,
         End::Limit => 124,
         End::Held(_) => 125,
         End::Refused(refusal) => setup::refusal_status(*refusal),
@@ -71,6 +72,7 @@ pub fn status(end: &End) -> u8 {
 fn notes(machine: &Machine, plan: &Plan, ran: &Ran, finding: Option<Finding>) -> Vec<String> {
     let mut notes = report::notes(machine, &ran.end, finding);
     notes.extend(plan.until.as_ref().and_then(|until| until.not_held(&machine.known, &ran.end, finding)));
+    notes.extend(plan.breakpoints.not_held(&machine.known, &ran.end));
     notes.extend(report::origin(machine, &ran.end, ran.origin.as_ref()));
     notes
 }
@@ -84,7 +86,7 @@ fn end_lines(machine: &Machine, plan: &Plan, ran: &Ran) -> Vec<String> {
         lines.extend(hints.iter().flat_map(|hint| words::folded(&hint.line(), 2, 4)));
     }
     lines.extend(
-        not_made(machine, plan)
+        not_made(plan, ran)
             .map(|(step, level)| format!("the request {level}@{step} was not made: the run ended before that step")),
     );
     lines.push(String::new());
@@ -97,8 +99,8 @@ fn end_lines(machine: &Machine, plan: &Plan, ran: &Ran) -> Vec<String> {
 }
 
 /// Requests whose step was not reached.
-fn not_made<'a>(machine: &'a Machine, plan: &'a Plan) -> impl Iterator<Item = &'a (u64, u32)> {
-    plan.requests.iter().filter(|(step, _)| *step > machine.steps)
+fn not_made<'a>(plan: &'a Plan, ran: &Ran) -> impl Iterator<Item = &'a (u64, u32)> {
+    plan.requests.iter().skip(ran.requests)
 }
 
 fn dump_lines(machine: &Machine, address: u32, count: u32) -> Vec<String> {
@@ -186,6 +188,7 @@ fn end_object(machine: &Machine, plan: &Plan, ran: &Ran, status: u8) -> Json {
         End::Stopped(number) => ("stop", Some(*number)),
         End::Limit => ("limit", None),
         End::Held(_) => ("until", None),
+        End::Breakpoint(number, _) => ("break", Some(*number)),
         End::Refused(refusal) => ("refused", Some(refusal.number())),
     };
     let finding = report::finding(machine, &ran.end);
@@ -212,7 +215,7 @@ fn end_object(machine: &Machine, plan: &Plan, ran: &Ran, status: u8) -> Json {
         ("map_length", Json::word(desk.map_length())),
         ("system_block", Json::word(desk.system_block())),
         ("control_block", Json::word(desk.control_block())),
-        ("not_made", Json::List(not_made(machine, plan).map(request_object).collect())),
+        ("not_made", Json::List(not_made(plan, ran).map(request_object).collect())),
         ("dumps", Json::List(plan.dumps.iter().map(|dump| dump_object(machine, *dump)).collect())),
     ])
 }

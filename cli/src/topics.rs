@@ -53,7 +53,7 @@ pub const TOPICS: &[Topic] = &[
         text: &[
             Say("In user mode an alarm is the cause of a kernel entry; its argument stands in the control block. In kernel mode an alarm stops the desk."),
             Table(STOPS),
-            Say("The library refuses, with desk and memory as they were (a number up to 7 is of the desk, 17 to 19 of a load list, 22 and 23 of two):"),
+            Say("The library refuses, with desk and memory as they were (a number up to 7 is of the desk, 17 to 19 of a load list, 20 of a run, 22 and 23 of two load lists):"),
             Table(REFUSALS),
         ],
     },
@@ -66,6 +66,7 @@ pub const TOPICS: &[Topic] = &[
             "desk run examples/minimum.mi\n\
              desk run examples/user_mode.mi --trace\n\
              desk run examples/user_mode.mi --until entry:11 --dump 800h,4\n\
+             desk run examples/factorial.mi --break one\n\
              desk debug examples/isolation.mi\n\
              desk map examples/isolation.mi\n\
              desk load examples/parts.load\n\
@@ -118,6 +119,7 @@ const REFUSALS: &[(&str, &str)] = &[
     ("17", "a load list with an unknown command, cut short, or with bytes after its end"),
     ("18", "a load list with more than 4,096 pieces"),
     ("19", "a load list that puts a byte outside memory"),
+    ("20", "a run with more than 64 breakpoints, armed or not"),
     ("22", "two load lists with a scratch that is shorter than the memory; `desk` lends one that is as long"),
     ("23", "two load lists that clash: at an address that both put, their last bytes differ"),
 ];
@@ -128,13 +130,14 @@ const STATUSES: &[(&str, &str)] = &[
     ("8, 12 to 16", "run: the program ended with the stop of that number"),
     (
         "32 + number",
-        "the library refused: 33 to 39 for refusals 1 to 7, 49 to 51 for 17 to 19, 54 and 55 for 22 and 23",
+        "the library refused: 33 to 39 for refusals 1 to 7, 49 to 52 for 17 to 20, 54 and 55 for 22 and 23",
     ),
     ("64", "the arguments do not fit"),
     ("65", "a file's content is not usable; messages say where"),
     ("66", "a file cannot be read"),
     ("70", "the script `desk`: the library or the command cannot be built"),
     ("74", "the output cannot be written"),
+    ("123", "run: a breakpoint of --break is reached"),
     ("124", "run: the step limit is reached"),
     ("125", "run: what --until names is reached"),
 ];

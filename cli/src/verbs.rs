@@ -90,12 +90,18 @@ pub const VERBS: &[Verb] = &[
                 "WHERE",
                 "ends before the command at an address or name, or after a kernel entry: `entry`, or `entry:11` for one cause, which of alarm 21 is 2. An alarm for which the system block has no entry is stop 16, and no kernel entry",
             ),
+            many(
+                "--break",
+                "PLACE",
+                "sets a breakpoint: holds the run before the command at an address or name, but not before its first step; at most 64",
+            ),
             many("--dump", "ADDRESS[,COUNT]", "shows COUNT bytes of memory (64) at the end, from a real address or a name on"),
             flag("--json", "a JSON object for each line of output"),
         ],
         text: &[
             Say("Without --trace the program runs at the library's full speed. On a terminal a run of more than a second shows its progress."),
             Say("The trace writes flags as letters, N Z V C, and `-` for those that are clear. A register or memory word that a step changed is shown with its old and its new value. A kernel entry is shown with its cause and argument in words."),
+            Say("Breakpoints are numbered from 1, in the order of the options. A name belongs to the kernel or to one program, the first that has it, and only that is held; a number is compared with R15 alone, whoever runs. Where an interrupt is due before the command, the kernel is entered first, and the run is held when the program comes back."),
             Say("With --json each step of --trace is an object, and the last object tells the end. The fields of a step:"),
             Table(&[
                 ("step", "its number, from 1"),
@@ -111,8 +117,8 @@ pub const VERBS: &[Verb] = &[
             ]),
             Say("The fields of the end:"),
             Table(&[
-                ("end", "`stop`, `limit`, `until` or `refused`"),
-                ("number", "of the stop or the refusal, else null"),
+                ("end", "`stop`, `limit`, `until`, `break` or `refused`"),
+                ("number", "of the stop, the breakpoint or the refusal, else null"),
                 ("cause, argument", "of the alarm or interrupt behind a stop, else null"),
                 ("words, hints", "the end in words, and a list of where to look"),
                 ("exit", "the exit status"),
@@ -146,6 +152,7 @@ pub const VERBS: &[Verb] = &[
             Say("Lines in, lines out; there is a prompt where standard input is a terminal. `rlwrap desk debug FILE` gives it a history. A line that starts with `--` or `#` is a remark; an empty one repeats the line before it. Ctrl-C ends all of desk, also in a long run. The commands:"),
             Table(crate::debug::COMMANDS),
             Say("An address is a number such as 410h, a name of the file, or a name and a distance, such as block+4. It is one of the present mode: in user mode a virtual one of the program that runs. `real` before it makes it a real one, and names of another mode lead to their real address; `list` shows those of a program with the program's addresses."),
+            Say("A breakpoint holds `run`, `until` and `step` before its command, but not before the first step of each, so that they go on from where they are held; `desk help run` tells more of it. Breakpoints are numbered from 1, and the number of a deleted one is not given again. There are at most 64, armed or off. `undo` leaves them as they are."),
             Say("A script with a line that is not understood is carried on with, and the exit status is then 65."),
         ],
     },

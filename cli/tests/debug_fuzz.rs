@@ -6,7 +6,7 @@ use desk::debug::{dialogue, Place};
 use desk::machine::Machine;
 use support::{images, Random};
 
-const WORDS: [&str; 41] = [
+const WORDS: [&str; 46] = [
     "step",
     "s",
     "run",
@@ -14,6 +14,11 @@ const WORDS: [&str; 41] = [
     "c",
     "until",
     "u",
+    "break",
+    "b",
+    "delete",
+    "enable",
+    "disable",
     "undo",
     "back",
     "request",
@@ -97,7 +102,12 @@ fn damaged_bytes_are_answered() {
     }
 }
 
-/// However far it goes, undoing all of it shows the registers, blocks and memory of the beginning.
+/// Breakpoints in the kernel's and the program's commands.
+fn breaks(random: &mut Random) -> String {
+    (0..random.below(20)).map(|_| format!("break {:X}h\n", *random.pick(&[0, 0x200]) + random.below(60))).collect()
+}
+
+/// However far it goes, and wherever it is held, undoing all of it shows the registers, blocks and memory of the beginning.
 #[test]
 fn undo_leads_back() {
     let mut random = Random(31);
@@ -105,8 +115,8 @@ fn undo_leads_back() {
     for _ in 0..40 {
         let Ok(machine) = Machine::fresh(images::random(&mut random)) else { continue };
         let (before, _) = answer(machine.clone(), looks.as_bytes());
-        let script =
-            format!("request 3\nrun {}\nrequest 9\nrun {}\nundo 1000\n{looks}", random.below(60), random.below(60));
+        let (breaks, n, m) = (breaks(&mut random), random.below(60), random.below(60));
+        let script = format!("{breaks}request 3\nrun {n}\nrun {m}\nrequest 9\nrun {n}\nrun {m}\nundo 1000\n{looks}");
         let (after, _) = answer(machine, script.as_bytes());
         assert!(after.ends_with(&before), "{before}\n{after}");
     }

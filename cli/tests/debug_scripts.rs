@@ -4,7 +4,7 @@ mod support;
 
 use std::io::Write;
 use std::process::{Command, Stdio};
-use support::{desk, example, file, golden, here, refused, text};
+use support::{desk, example, file, golden, here, refused, text, written};
 
 #[test]
 fn scripts_answer_as_stored() {
@@ -53,6 +53,20 @@ fn lines_from_standard_input() {
         2 steps made\n\
         next: the kernel at call (207h): CMP W I 0,block.argument (line 27)\n";
     assert_eq!(text(&output.stdout), expected);
+}
+
+/// A 65th breakpoint is refused; where one is deleted there is room again, and its number is not given anew.
+#[test]
+fn at_most_64_breakpoints() {
+    let breaks: String = (0..65).map(|place| format!("break {}\n", 1000 + place)).collect();
+    let script = written("breaks.txt", format!("{breaks}delete 64\nbreak 7\nbreak 8\n").as_bytes());
+    let output = desk(&["debug", &example("sum"), "--script", &script]);
+    let out = text(&output.stdout);
+    let refused =
+        |line| format!("{script}:{line}: refusal 20: a run has at most 64 breakpoints; `delete N` makes room");
+    let number = "breakpoint 65: the command at 7; no command is known to begin there";
+    let last: Vec<&str> = out.lines().skip(64).collect();
+    assert_eq!(last, [&refused(65), "breakpoint 64 is deleted", number, &refused(68)]);
 }
 
 #[test]

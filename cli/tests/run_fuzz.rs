@@ -2,10 +2,12 @@
 
 mod support;
 
+use desk::breakpoints::Breakpoints;
 use desk::engine;
 use desk::image::{self, Image};
 use desk::machine::Machine;
-use desk::plan::{Place, Plan, Until};
+use desk::place::Place;
+use desk::plan::{Plan, Until};
 use desk::show::Show;
 use support::{example, images, Random, EXAMPLES};
 
@@ -27,12 +29,23 @@ fn damaged(random: &mut Random) -> Image {
     }
 }
 
+fn place(random: &mut Random) -> Place {
+    Place { address: random.below(0x800) as u32, mode: None }
+}
+
+fn breakpoints(random: &mut Random) -> Breakpoints {
+    let mut breakpoints = Breakpoints::default();
+    for _ in 0..random.below(8) {
+        breakpoints.set(place(random), None);
+    }
+    breakpoints
+}
+
 fn plan(random: &mut Random) -> Plan {
-    let place = Place { address: random.below(0x800) as u32, mode: None };
     let until = match random.below(4) {
         0 => Some(Until::Entry(None)),
         1 => Some(Until::Entry(Some(*random.pick(&[2, 8, 9, 10, 11, 12, 13, 14, 15])))),
-        2 => Some(Until::Place(place)),
+        2 => Some(Until::Place(place(random))),
         _ => None,
     };
     let mut requests: Vec<(u64, u32)> =
@@ -42,6 +55,7 @@ fn plan(random: &mut Random) -> Plan {
         limit: random.below(200),
         requests,
         until,
+        breakpoints: breakpoints(random),
         trace: random.below(2) == 0,
         json: random.below(2) == 0,
         dumps: vec![(random.next() as u32, random.below(100) as u32)],
@@ -62,6 +76,6 @@ fn every_run_ends_with_words() {
         let text = String::from_utf8(out).expect("UTF-8");
         assert!(text.ends_with('\n') && !text.contains("no words for"), "{text}");
     }
-    let wanted = [0, 8, 12, 13, 14, 15, 16, 124, 125];
+    let wanted = [0, 8, 12, 13, 14, 15, 16, 123, 124, 125];
     assert!(wanted.iter().all(|status| statuses.contains(status)), "{statuses:?}");
 }

@@ -101,6 +101,15 @@ fn every_line_is_an_object_with_the_documented_fields() {
     }
 }
 
+#[test]
+fn a_hold_has_the_number_of_its_breakpoint() {
+    let (out, status) = said(&["run", &example("factorial"), "--json", "--break", "900h", "--break", "one"]);
+    assert_eq!((status, value(out.trim_end())), (123, Some("")), "{out}");
+    assert_eq!(fields(&out), documented()[1]);
+    assert!(out.starts_with(r#"{"end":"break","number":2,"cause":null,"argument":null,"words":"held after 30 steps: "#));
+    assert!(out.contains(r#""exit":123,"steps":30,"#), "{out}");
+}
+
 /// Alarm 21 is told by its cause, 2, with the byte's address, and by its own number in words.
 #[test]
 fn alarm_21_in_json() {

@@ -8,7 +8,7 @@ use desk::plan::Plan;
 use desk::verbs::VERBS;
 use support::{images, Random};
 
-const WORDS: [&str; 32] = [
+const WORDS: [&str; 34] = [
     "a.mi",
     "--steps",
     "--steps=",
@@ -24,6 +24,8 @@ const WORDS: [&str; 32] = [
     "entry",
     "entry:",
     "entry:11",
+    "--break",
+    "--break=200h",
     "--dump",
     "0,",
     ",",

@@ -132,10 +132,12 @@ fn help_without_arguments() {
     assert!(status == 0 && overview.contains("desk run FILE"));
     assert_eq!(said(&["run", "--help"]), said(&["help", "run"]));
     assert_eq!(said(&["--help"]).0, overview);
-    assert_eq!(said(&["--version"]), ("desk 3.0.1, over libmidesk 3.0.1\n".to_string(), 0));
+    assert_eq!(said(&["--version"]), ("desk 3.1.0, over libmidesk 3.1.0\n".to_string(), 0));
     assert!(said(&["help", "stops"]).0.contains("17 to 31"));
     let lines = |topic: &str| said(&["help", topic]).0.split_whitespace().collect::<Vec<_>>().join(" ");
     assert!(lines("stops").contains("2 cause: alarm 21") && lines("stops").contains("21 alarm: a byte of a command"));
+    assert!(lines("stops").contains("20 a run with more than 64 breakpoints, armed or not"));
+    assert!(lines("status").contains("49 to 52 for 17 to 20") && lines("status").contains("123 run: a breakpoint"));
     assert!(lines("memory").contains("20000000h no commands may be fetched from it"));
     assert!(lines("memory").contains("1F000000h these bits must be 0"));
     assert!(lines("asm").contains("NO FETCH behind READ or WRITE") && lines("asm").contains("8 to 15 or 21"));

@@ -1,15 +1,17 @@
 /*
- * Replays sequences of calls, which the model's programs `sequences`, `lists` and `pairs` write, and compares every
- * answer, state, memory and scratch with the model's, bit for bit. Reads them from standard input;
+ * Replays sequences of calls, which the model's programs `sequences`, `lists`, `pairs` and `points` write, and compares
+ * every answer, state, memory and scratch with the model's, bit for bit. Reads them from standard input;
  * model/src/sequences/stream.rs describes their form.
  *
- * Memory, state, step count, load lists and scratch each stand between pages that no access may touch: every sequence
- * is played twice, once with its first bytes right after such a page, once with its last bytes right before one. The
- * bytes that share their pages are filled and must stay as they are. So an access beside them is caught, in code
- * without a sanitizer too. Two equal lists are lent as two the first time, as one and the same the second time.
+ * Memory, state, step count, load lists, scratch and breakpoints each stand between pages that no access may touch:
+ * every sequence is played twice, once with its first bytes right after such a page, once with its last bytes right
+ * before one. The bytes that share their pages are filled and must stay as they are. So an access beside them is
+ * caught, in code without a sanitizer too. Two equal lists are lent as two the first time, as one and the same the
+ * second time; no breakpoints by a pointer to such a page the first time, by a null pointer the second time.
  *
- * Besides it is checked that a refused call changes neither state nor memory, that a run is as many steps, that a load
- * leaves its lists as they are, and that the helpers of midesk.h read and write the whole state.
+ * Besides it is checked that a refused call changes neither state nor memory, that a run is as many steps and is held
+ * where they come to a breakpoint and nowhere else, that lists and breakpoints stay as they are, and that the helpers
+ * of midesk.h read and write the whole state.
  *
  * Exit status: 0 all equal, 1 something differs, 2 the input cannot be used.
  */
@@ -18,20 +20,19 @@
 #include <stdio.h>
 #include <stdlib.h>
 #include <string.h>
-#include <sys/mman.h>
 #include <unistd.h>
 
+#include "guards.h"
 #include "midesk.h"
 
 #define STATE MIDESK_STATE_BYTES
-#define PAGE ((size_t)4096)
-#define GUARD ((size_t)1 << 32) /* no 32-bit address leads past it */
 #define LONGEST ((size_t)MIDESK_MAX_MEMORY + PAGE)
 #define LONGEST_LIST ((size_t)1 << 20)
-#define FILL 0xA5
+#define MOST_POINTS 70 /* the most breakpoints in the input */
 #define SECONDS 20 /* a sequence that takes longer hangs */
 #define SHOWN 5    /* differences that are printed */
 #define LIST_BROKEN 17u   /* the refusal of a list that is cut short or has bytes after its end */
+#define MANY_POINTS 20u   /* the refusal of too many breakpoints */
 #define SCRATCH_SHORT 22u /* the refusal of a scratch that is shorter than the memory */
 
 /* ---- What is being done, for the messages. */
@@ -51,73 +52,15 @@ static void bad_input(const char *what)
 
 /* ---- Buffers between guards. */
 
-struct buffer {
-    const char *name;
-    uint8_t *pages; /* the first page that may be touched */
-    size_t inner;   /* bytes between the guards */
-    size_t open;    /* bytes of pages that may be touched */
-    uint8_t *at;    /* the buffer */
-    size_t len;
-};
-
-static uint8_t filled[PAGE]; /* FILL throughout */
 static struct buffer memory = {"memory", NULL, 0, 0, NULL, 0};
 static struct buffer state = {"state", NULL, 0, 0, NULL, 0};
 static struct buffer count = {"step count", NULL, 0, 0, NULL, 0};
 static struct buffer list = {"list", NULL, 0, 0, NULL, 0};
 static struct buffer second = {"second list", NULL, 0, 0, NULL, 0};
 static struct buffer scratch = {"scratch", NULL, 0, 0, NULL, 0};
-static struct buffer *const buffers[] = {&memory, &state, &count, &list, &second, &scratch};
+static struct buffer points = {"breakpoints", NULL, 0, 0, NULL, 0};
+static struct buffer *const buffers[] = {&memory, &state, &count, &list, &second, &scratch, &points};
 #define BUFFERS (sizeof buffers / sizeof buffers[0])
-
-static void reserve(struct buffer *b, size_t most)
-{
-    size_t inner = (most + PAGE - 1) / PAGE * PAGE;
-    void *p = mmap(NULL, inner + 2 * GUARD, PROT_NONE, MAP_PRIVATE | MAP_ANONYMOUS | MAP_NORESERVE, -1, 0);
-    if (p == MAP_FAILED) {
-        perror("compare: mmap");
-        exit(2);
-    }
-    b->pages = (uint8_t *)p + GUARD;
-    b->inner = inner;
-}
-
-/* Opens the pages for len bytes and lays the buffer at their low or high end. For 0 bytes no page is open. */
-static void place(struct buffer *b, size_t len, int high)
-{
-    size_t open = (len + PAGE - 1) / PAGE * PAGE;
-    if ((b->open > open && mprotect(b->pages + open, b->open - open, PROT_NONE) != 0)
-        || (b->open < open && mprotect(b->pages, open, PROT_READ | PROT_WRITE) != 0)) {
-        perror("compare: mprotect");
-        exit(2);
-    }
-    b->open = open;
-    b->len = len;
-    b->at = high ? b->pages + (open - len) : b->pages;
-    if (open != 0) {
-        memset(b->pages, FILL, (size_t)(b->at - b->pages));
-        memset(b->at + len, FILL, (size_t)(b->pages + open - (b->at + len)));
-    }
-}
-
-/* Whether the bytes that share the buffer's pages are as they were filled. */
-static int kept(const struct buffer *b)
-{
-    size_t before = (size_t)(b->at - b->pages), past = b->open - before - b->len;
-    return (before == 0 || memcmp(b->pages, filled, before) == 0)
-        && (past == 0 || memcmp(b->at + b->len, filled, past) == 0);
-}
-
-static int say_where(char *out, size_t room, const struct buffer *b, const uint8_t *touched)
-{
-    if (b->pages == NULL || touched < b->pages - GUARD || touched >= b->pages + b->inner + GUARD)
-        return 0;
-    if (touched >= b->at + b->len)
-        snprintf(out, room, "byte %lu past the end of the %s", (unsigned long)(touched - (b->at + b->len)), b->name);
-    else
-        snprintf(out, room, "byte %lu before the start of the %s", (unsigned long)(b->at - touched), b->name);
-    return 1;
-}
 
 static void say_and_leave(const char *what)
 {
@@ -150,8 +93,8 @@ static void on_alarm(int number)
 
 /* ---- The input. */
 
-/* The acts, by their numbers in the input: four calls, then what the caller does itself, then two calls more. */
-enum act { FRESH, STEP, RUN, REQUEST, PUT_STATE, PUT_MEMORY, PUT_LENGTH, LOAD, LOAD_BOTH, ACTS };
+/* The acts, by their numbers in the input: four calls, then what the caller does itself, then three calls more. */
+enum act { FRESH, STEP, RUN, REQUEST, PUT_STATE, PUT_MEMORY, PUT_LENGTH, LOAD, LOAD_BOTH, RUN_TO, ACTS };
 
 static const char *const act_names[ACTS] = {"fresh",
                                             "step",
@@ -161,7 +104,8 @@ static const char *const act_names[ACTS] = {"fresh",
                                             "the caller's memory",
                                             "the caller's length",
                                             "load",
-                                            "load_both"};
+                                            "load_both",
+                                            "run_to"};
 
 struct reader {
     const uint8_t *at, *end;
@@ -210,7 +154,8 @@ static void change(struct reader *r, uint8_t *bytes, size_t len)
 static uint8_t *expected; /* the model's memory */
 static uint8_t *after;    /* the memory after a run */
 static uint8_t *noted;    /* the scratch as it must be */
-static unsigned long calls, loads, both, runs, run_steps, refused;
+static uint8_t given[MOST_POINTS * sizeof(midesk_breakpoint)]; /* the breakpoints as they must stay */
+static unsigned long calls, loads, both, runs, run_steps, runs_to, held, refused;
 
 static int fail(const char *what, const char *detail)
 {
@@ -262,11 +207,54 @@ static uint32_t call_run(uint64_t n)
     return midesk_run(memory.at, memory.len, state.at, n, (uint64_t *)(void *)count.at);
 }
 
-/* Makes the steps of a run one by one, from `before` and the memory `expected`, and compares with what the run left. */
-static int run_as_steps(uint64_t n, uint32_t answer, uint64_t made, const uint8_t before[STATE])
+/* No breakpoints are lent by a null pointer the second time. */
+static uint64_t call_run_to(uint64_t n)
+{
+    const void *lent = points.len == 0 && !first_time ? NULL : points.at;
+    return midesk_run_to(memory.at, memory.len, state.at, n, (const midesk_breakpoint *)lent,
+                         points.len / sizeof(midesk_breakpoint), (uint64_t *)(void *)count.at);
+}
+
+/* The answer of midesk_step and midesk_run_to to what this number refuses. */
+static uint64_t refused_by(uint32_t number)
+{
+    return (uint64_t)MIDESK_REFUSED << 32 | number;
+}
+
+/* Whether a breakpoint holds the desk before its next step, and if so which. */
+static int is_held(size_t *which)
+{
+    const midesk_breakpoint *lent = (const midesk_breakpoint *)(const void *)points.at;
+    const size_t n = points.len / sizeof *lent;
+    const uint32_t status = midesk_word(state.at, MIDESK_STATUS);
+    const unsigned level = (status & MIDESK_LEVEL) / 16;
+    if ((status & MIDESK_KERNEL) == 0 && midesk_pending(state.at) >> (level + 1) != 0)
+        return 0;
+    for (*which = 0; *which < n; ++*which)
+        if (lent[*which].armed && lent[*which].r15 == midesk_register(state.at, MIDESK_PC))
+            return 1;
+    return 0;
+}
+
+/* Whether a run of n steps with this answer ends after so many, of which the last answered `last`. */
+static int ends(uint64_t n, uint64_t answer, uint64_t made, uint64_t last)
+{
+    const int stopped = made != 0 && midesk_kind(last) == MIDESK_STOPPED;
+    size_t which;
+    switch (midesk_kind(answer)) {
+    case MIDESK_ENDED: return made == n || (made < n && stopped);
+    case MIDESK_HELD: return made != 0 && made < n && !stopped && is_held(&which) && which == midesk_number(answer);
+    default: return made == 0;
+    }
+}
+
+/* Makes the steps of a run one by one, from `before` and the memory `expected`, and compares with what the run left.
+   The answer is in the form of midesk_run_to's; a run of midesk_run has no breakpoints. */
+static int run_as_steps(uint64_t n, uint64_t answer, uint64_t made, const uint8_t before[STATE])
 {
     uint8_t left[STATE];
     uint64_t i, a = 0;
+    size_t which;
     int ok = 1;
     memcpy(left, state.at, STATE);
     memcpy(state.at, before, STATE);
@@ -274,18 +262,17 @@ static int run_as_steps(uint64_t n, uint32_t answer, uint64_t made, const uint8_
         memcpy(after, memory.at, memory.len);
         memcpy(memory.at, expected, memory.len);
     }
-    if (answer != MIDESK_OK) {
-        a = midesk_step(memory.at, memory.len, state.at);
-        ok = same_number("the kind of a step instead of the refused run", midesk_kind(a), MIDESK_REFUSED)
-            && same_number("the refusal of a step instead of the refused run", midesk_number(a), answer);
-    }
+    if (midesk_kind(answer) == MIDESK_REFUSED && midesk_number(answer) != MANY_POINTS)
+        ok = same_number("a step instead of the refused run", midesk_step(memory.at, memory.len, state.at), answer);
     for (i = 0; ok && i < made; i++) {
+        if (i != 0 && is_held(&which))
+            ok = fail("the run", " goes on at a breakpoint");
         a = midesk_step(memory.at, memory.len, state.at);
         if (midesk_kind(a) == MIDESK_REFUSED || (midesk_kind(a) == MIDESK_STOPPED && i + 1 < made))
             ok = fail("a step of the run", " is refused or stops before the run's end");
     }
-    if (ok && (made > n || (answer == MIDESK_OK && made < n && (made == 0 || midesk_kind(a) != MIDESK_STOPPED))))
-        ok = fail("the run's step count", " is neither n nor that of a stop");
+    if (ok && !ends(n, answer, made, a))
+        ok = fail("the run's end", " is not where its steps end");
     if (first_time)
         run_steps += (unsigned long)made;
     return ok && same_bytes("state of the steps against that of the run", state.at, left, STATE)
@@ -315,6 +302,7 @@ static int call(struct reader *r, unsigned act, const uint32_t words[3], uint64_
 {
     uint8_t before[STATE];
     const uint8_t *want_state;
+    const int has_kind = act == STEP || act == RUN_TO, is_run = act == RUN || act == RUN_TO;
     uint64_t answer = 0, want, made = 0, want_made = 0;
     int ok, is_refused;
     memcpy(before, state.at, STATE);
@@ -328,21 +316,27 @@ static int call(struct reader *r, unsigned act, const uint32_t words[3], uint64_
         break;
     case LOAD: answer = midesk_load(memory.at, memory.len, list.at, list.len); break;
     case LOAD_BOTH: answer = call_load_both(); break;
+    case RUN_TO:
+        answer = call_run_to(n);
+        made = get_count();
+        break;
     default: answer = midesk_request(state.at, words[0]); break;
     }
-    want = act == STEP ? take_u64(r) : take_u32(r);
-    if (act == RUN)
+    want = has_kind ? take_u64(r) : take_u32(r);
+    if (is_run)
         want_made = take_u64(r);
     if (act == LOAD_BOTH)
         expect_scratch(r);
     want_state = take(r, STATE);
-    is_refused = act == STEP ? midesk_kind(answer) == MIDESK_REFUSED : answer != MIDESK_OK;
+    is_refused = has_kind ? midesk_kind(answer) == MIDESK_REFUSED : answer != MIDESK_OK;
     if (first_time) {
         calls++;
         refused += (unsigned long)is_refused;
-        runs += act == RUN;
+        runs += (unsigned long)is_run;
         loads += act == LOAD;
         both += act == LOAD_BOTH;
+        runs_to += act == RUN_TO;
+        held += act == RUN_TO && midesk_kind(answer) == MIDESK_HELD;
     }
     ok = same_number("the answer", answer, want) && same_number("the step count", made, want_made)
         && (act == FRESH || !is_refused || same_bytes("state of a refused call", state.at, before, STATE))
@@ -350,11 +344,12 @@ static int call(struct reader *r, unsigned act, const uint32_t words[3], uint64_
         && ((act != LOAD && act != LOAD_BOTH) || same_bytes("the list after its load", list.at, bytes[0], list.len))
         && (act != LOAD_BOTH
             || (same_bytes("the second list after its load", second.at, bytes[1], second.len)
-                && same_bytes("the scratch", scratch.at, noted, scratch.len)));
+                && same_bytes("the scratch", scratch.at, noted, scratch.len)))
+        && same_bytes("the breakpoints after the run", points.at, given, points.len);
     if (ok && (is_refused || act == FRESH || act == REQUEST))
         ok = same_bytes("memory of a call that leaves it alone", memory.at, expected, memory.len);
-    if (ok && act == RUN)
-        ok = run_as_steps(n, (uint32_t)answer, made, before);
+    if (ok && is_run)
+        ok = run_as_steps(n, act == RUN && is_refused ? refused_by((uint32_t)answer) : answer, made, before);
     change(r, expected, memory.len);
     return ok && same_bytes("memory", memory.at, expected, memory.len) && all_kept();
 }
@@ -432,21 +427,45 @@ static void take_scratch(struct reader *r, int high)
         memcpy(scratch.at, noted, len);
 }
 
-static int play(struct reader r, int high)
+/* Lends so many breakpoints from here on, those of the input. */
+static void take_points(struct reader *r, size_t n, int high)
 {
-    uint32_t acts, i;
+    midesk_breakpoint *lent;
+    size_t i;
+    if (n > MOST_POINTS)
+        bad_input("there are too many breakpoints");
+    place(&points, n * sizeof *lent, high);
+    lent = (midesk_breakpoint *)(void *)points.at;
+    for (i = 0; i < n; i++) {
+        memset(&lent[i], FILL, sizeof *lent); /* also the bytes that mean nothing */
+        lent[i].r15 = take_u32(r);
+        lent[i].armed = *take(r, 1) != 0;
+        memcpy(given + i * sizeof *lent, &lent[i], sizeof *lent);
+    }
+}
+
+/* Lays state and step count at this end. Nothing else is lent yet, but for the memory. */
+static void begin(int high)
+{
     now_place = high ? "at the upper guard" : "at the lower guard";
-    first_time = !high;
-    now_act = 0;
-    now_call = "start";
-    memory.len = 0;
-    lend(take_u32(&r), high);
-    change_memory(&r);
     place(&state, STATE, high);
     place(&count, sizeof(uint64_t), high);
     place(&list, 0, high);
     place(&second, 0, high);
     place(&scratch, 0, high);
+    place(&points, 0, high);
+}
+
+static int play(struct reader r, int high)
+{
+    uint32_t acts, i;
+    first_time = !high;
+    now_act = 0;
+    now_call = "start";
+    begin(high);
+    memory.len = 0;
+    lend(take_u32(&r), high);
+    change_memory(&r);
     memcpy(state.at, take(&r, STATE), STATE);
     acts = take_u32(&r);
     for (i = 0; i < acts; i++) {
@@ -463,7 +482,10 @@ static int play(struct reader r, int high)
                 words[k] = take_u32(&r);
             break;
         case STEP: break;
-        case RUN: n = take_u64(&r); break;
+        case RUN:
+            n = take_u64(&r);
+            place(&points, 0, high);
+            break;
         case REQUEST: words[0] = take_u32(&r); break;
         case PUT_STATE: memcpy(state.at, take(&r, STATE), STATE); break;
         case PUT_MEMORY: change_memory(&r); break;
@@ -473,6 +495,10 @@ static int play(struct reader r, int high)
             bytes[0] = take_list(&r, &list, high);
             bytes[1] = take_list(&r, &second, high);
             take_scratch(&r, high);
+            break;
+        case RUN_TO:
+            n = take_u64(&r);
+            take_points(&r, take_u32(&r), high);
             break;
         default: bad_input("an act of no kind");
         }
@@ -486,7 +512,8 @@ static int play(struct reader r, int high)
     return 1;
 }
 
-/* A null pointer with length 0: as a memory number 1, as a list number 17, as a scratch number 22. */
+/* A null pointer with length 0: as a memory number 1, as a list number 17, as a scratch number 22. No breakpoints are
+   lent by it in `play`. */
 static int null_memory(int high)
 {
     static const uint8_t none[512], end[1];
@@ -494,14 +521,9 @@ static int null_memory(int high)
     uint64_t a;
     size_t i;
     int ok;
-    now_place = high ? "at the upper guard" : "at the lower guard";
     now_call = "calls with a null pointer";
-    place(&state, STATE, high);
-    place(&count, sizeof(uint64_t), high);
+    begin(high);
     place(&memory, 0, high);
-    place(&list, 0, high);
-    place(&second, 0, high);
-    place(&scratch, 0, high);
     for (i = 0; i < STATE; i++)
         any[i] = (uint8_t)(3 * i + 1);
     memset(zero, 0, STATE);
@@ -510,13 +532,16 @@ static int null_memory(int high)
     ok = same_number("fresh", midesk_fresh(NULL, 0, 0, 0, 0, state.at), MIDESK_REFUSED_LENGTH)
         && same_bytes("state of fresh", state.at, zero, STATE);
     memcpy(state.at, any, STATE);
-    a = midesk_step(NULL, 0, state.at);
-    ok = ok && same_number("kind of step", midesk_kind(a), MIDESK_REFUSED)
-        && same_number("number of step", midesk_number(a), MIDESK_REFUSED_LENGTH);
+    ok = ok && same_number("step", midesk_step(NULL, 0, state.at), refused_by(MIDESK_REFUSED_LENGTH));
     for (i = 0; ok && i < 3; i++) {
+        uint64_t *steps = (uint64_t *)(void *)count.at;
         memset(count.at, FILL, sizeof a);
-        a = midesk_run(NULL, 0, state.at, (uint64_t)i, (uint64_t *)(void *)count.at);
+        a = midesk_run(NULL, 0, state.at, (uint64_t)i, steps);
         ok = same_number("run", a, MIDESK_REFUSED_LENGTH) && same_number("steps of run", get_count(), 0);
+        memset(count.at, FILL, sizeof a);
+        a = midesk_run_to(NULL, 0, state.at, (uint64_t)i, NULL, 0, steps);
+        ok = ok && same_number("run_to", a, refused_by(MIDESK_REFUSED_LENGTH))
+            && same_number("steps of run_to", get_count(), 0);
     }
     ok = ok && same_number("load into it", midesk_load(NULL, 0, end, sizeof end), MIDESK_REFUSED_LENGTH)
         && same_number("load of it", midesk_load(least, sizeof least, NULL, 0), LIST_BROKEN)
@@ -534,36 +559,40 @@ static int null_memory(int high)
     return ok && same_bytes("state", state.at, any, STATE) && all_kept();
 }
 
-/* Lengths that would be allowed if only their low 32 bits counted. */
+/* Lengths, and a count of breakpoints, that would be allowed if only their low 32 bits counted. */
 static int long_memory(void)
 {
     static const size_t lengths[] = {((size_t)1 << 32) + 1024, ((size_t)1 << 32) + 512, (size_t)1 << 32};
+    const size_t many = ((size_t)1 << 32) + 1, room = many * sizeof(midesk_breakpoint);
     uint8_t fresh[STATE], zero[STATE], least[512] = {0}, lent[512] = {0};
     const int how = MAP_PRIVATE | MAP_ANONYMOUS | MAP_NORESERVE;
-    uint8_t *mem = (uint8_t *)mmap(NULL, lengths[0], PROT_READ | PROT_WRITE, how, -1, 0);
+    void *pages = mmap(NULL, room, PROT_READ | PROT_WRITE, how, -1, 0);
+    uint8_t *mem = (uint8_t *)pages;
+    uint64_t *steps;
+    uint64_t a;
     size_t i;
     int ok = 1;
-    if (mem == (uint8_t *)MAP_FAILED) {
-        fprintf(stderr, "compare: no memory of more than 4 GiB can be reserved; those lengths are left out\n");
+    if (pages == MAP_FAILED) {
+        fprintf(stderr, "compare: 32 GiB cannot be reserved; lengths of more than 4 GiB are left out\n");
         return 1;
     }
     now_call = "calls with more than 4 GiB";
-    place(&state, STATE, 1);
-    place(&count, sizeof(uint64_t), 1);
+    begin(1);
+    steps = (uint64_t *)(void *)count.at;
     memset(zero, 0, STATE);
     midesk_set_word(zero, MIDESK_MARK, MIDESK_REFUSED_LENGTH);
     ok = same_number("fresh", midesk_fresh(least, sizeof least, 0, 256, 0, fresh), MIDESK_OK);
     for (i = 0; ok && i < sizeof lengths / sizeof lengths[0]; i++) {
-        uint64_t a;
         ok = same_number("fresh", midesk_fresh(mem, lengths[i], 0, 256, 0, state.at), MIDESK_REFUSED_LENGTH)
             && same_bytes("state of fresh", state.at, zero, STATE);
         memcpy(state.at, fresh, STATE);
         a = midesk_step(mem, lengths[i], state.at);
-        ok = ok && same_number("kind of step", midesk_kind(a), MIDESK_REFUSED)
-            && same_number("number of step", midesk_number(a), MIDESK_REFUSED_LENGTH);
-        a = midesk_run(mem, lengths[i], state.at, 1, (uint64_t *)(void *)count.at);
-        ok = ok && same_number("run", a, MIDESK_REFUSED_LENGTH) && same_number("steps of run", get_count(), 0)
-            && same_bytes("state", state.at, fresh, STATE)
+        ok = ok && same_number("step", a, refused_by(MIDESK_REFUSED_LENGTH));
+        a = midesk_run(mem, lengths[i], state.at, 1, steps);
+        ok = ok && same_number("run", a, MIDESK_REFUSED_LENGTH) && same_number("steps of run", get_count(), 0);
+        a = midesk_run_to(mem, lengths[i], state.at, 1, NULL, 0, steps);
+        ok = ok && same_number("run_to", a, refused_by(MIDESK_REFUSED_LENGTH))
+            && same_number("steps of run_to", get_count(), 0) && same_bytes("state", state.at, fresh, STATE)
             && same_number("load", midesk_load(mem, lengths[i], least, 1), MIDESK_REFUSED_LENGTH)
             && same_number("load_both", midesk_load_both(mem, lengths[i], least, 1, least, 1, lent, sizeof lent),
                            MIDESK_REFUSED_LENGTH);
@@ -573,7 +602,10 @@ static int long_memory(void)
     ok = ok && same_number("load of 4 GiB", midesk_load(least, 512, mem, i), LIST_BROKEN)
         && same_number("4 GiB as first list", midesk_load_both(least, 512, mem, i, mem, 1, lent, 512), LIST_BROKEN)
         && same_number("4 GiB as second list", midesk_load_both(least, 512, mem, 1, mem, i, lent, 512), LIST_BROKEN);
-    munmap(mem, lengths[0]);
+    a = midesk_run_to(least, 512, state.at, 1, (const midesk_breakpoint *)pages, many, steps);
+    ok = ok && same_number("run_to with 2^32 + 1 breakpoints", a, refused_by(MANY_POINTS))
+        && same_number("steps of run_to", get_count(), 0) && same_bytes("state", state.at, fresh, STATE);
+    munmap(pages, room);
     return ok && all_kept();
 }
 
@@ -609,13 +641,13 @@ int main(void)
         perror("compare: malloc");
         return 2;
     }
-    memset(filled, FILL, sizeof filled);
     reserve(&memory, LONGEST);
     reserve(&state, STATE);
     reserve(&count, sizeof(uint64_t));
     reserve(&list, LONGEST_LIST);
     reserve(&second, LONGEST_LIST);
     reserve(&scratch, LONGEST);
+    reserve(&points, sizeof given);
     catch_signals();
     strcpy(now_family, "lengths");
     for (high = 0; high < 2; high++)
@@ -657,9 +689,9 @@ int main(void)
         bad_input("it does not end with END.");
     if (getchar() != EOF)
         bad_input("it goes on after its end");
-    printf("%lu sequences, %lu calls at each guard, %lu of them loads, %lu loads of two lists, %lu refused, "
-           "%lu runs also made as %lu steps: %lu differ\n",
-           (unsigned long)sequences, calls, loads, both, refused, runs, run_steps, differ);
+    printf("%lu sequences, %lu calls at each guard, %lu of them loads, %lu loads of two lists, %lu runs to breakpoints "
+           "(%lu held), %lu refused, %lu runs also made as %lu steps: %lu differ\n",
+           (unsigned long)sequences, calls, loads, both, runs_to, held, refused, runs, run_steps, differ);
     free(bytes);
     free(expected);
     free(after);

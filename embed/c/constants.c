@@ -26,6 +26,7 @@
 
 static uint8_t memory[MIDESK_MAX_MEMORY + 1024];
 static uint8_t desk[ROOM];
+static const midesk_breakpoint many[MIDESK_MAX_BREAKPOINTS + 1] = {{0, false}}; /* too many, none armed */
 static int wrong;
 
 static void same(const char *what, uint64_t called, uint64_t header)
@@ -105,6 +106,16 @@ static void step(const char *what, uint32_t kind, uint32_t number)
     uint64_t answer = midesk_step(memory, LENGTH, desk);
     same(what, midesk_kind(answer), kind);
     same(what, midesk_number(answer), number);
+}
+
+/* A run to breakpoints, whose answer and step count are to be these. */
+static void run_to(const char *what, uint64_t n, const midesk_breakpoint *points, size_t count, uint32_t kind,
+                   uint32_t number, uint64_t made)
+{
+    uint64_t steps = FILL, answer = midesk_run_to(memory, LENGTH, desk, n, points, count, &steps);
+    same(what, midesk_kind(answer), kind);
+    same(what, midesk_number(answer), number);
+    same(what, steps, made);
 }
 
 /* A step that enters the kernel with this cause, argument and saved R15. */
@@ -425,6 +436,8 @@ static void refusals(void)
         same("MIDESK_REFUSED", midesk_kind(answer), MIDESK_REFUSED);
         same(rows[i].name, midesk_number(answer), rows[i].refusal);
         same(rows[i].name, midesk_run(memory, rows[i].length, desk, 1, &steps), rows[i].refusal);
+        /* Tried before the number of breakpoints. */
+        same(rows[i].name, midesk_run_to(memory, rows[i].length, desk, 1, many, COUNT(many), &steps), answer);
     }
     begin(NULL, 0);
     same("MIDESK_REFUSED_LEVEL", midesk_request(desk, 0), MIDESK_REFUSED_LEVEL);
@@ -544,6 +557,61 @@ static void run(void)
     same("MIDESK_OK: run", midesk_run(memory, LENGTH, desk, 9, &steps), MIDESK_OK);
     same("steps of a run", steps, 2);
     same("MIDESK_STOP_HALT", midesk_mark(desk), MIDESK_STOP_HALT);
+}
+
+/* ---- Breakpoints. */
+
+/* CLEAR B R1 twice, then HALT: three steps, the last two at CODE + 7 and CODE + 14; R15 is CODE + 15 in the end. */
+static void begin_three(void)
+{
+    static const uint8_t code[] = {0x14, 2, 0x10, 0, 0, 0, 0, 0x14, 2, 0x10, 0, 0, 0, 0, 0x00};
+    begin(code, sizeof code);
+}
+
+static void breakpoints(void)
+{
+    static const struct {
+        const char *name;
+        midesk_breakpoint points[3];
+        uint64_t n;
+        uint32_t kind, number;
+        uint64_t steps;
+    } rows[] = {
+        {"MIDESK_ENDED: none armed", {{CODE + 7, false}, {CODE + 14, false}, {CODE, false}}, 9, MIDESK_ENDED, 0, 3},
+        {"MIDESK_ENDED: start, stop", {{CODE, true}, {CODE + 15, true}, {0, false}}, 9, MIDESK_ENDED, 0, 3},
+        {"MIDESK_ENDED: the last step", {{CODE + 7, true}, {0, false}, {0, false}}, 1, MIDESK_ENDED, 0, 1},
+        {"MIDESK_ENDED: no steps", {{CODE, true}, {0, false}, {0, false}}, 0, MIDESK_ENDED, 0, 0},
+        {"MIDESK_HELD: first place", {{CODE + 7, true}, {CODE + 14, true}, {CODE + 7, true}}, 9, MIDESK_HELD, 0, 1},
+        {"MIDESK_HELD: after one off", {{CODE + 7, false}, {CODE + 14, true}, {CODE + 7, true}}, 9, MIDESK_HELD, 2, 1},
+        {"MIDESK_HELD: at HALT", {{CODE + 13, true}, {CODE + 14, true}, {CODE + 14, true}}, 9, MIDESK_HELD, 1, 2},
+    };
+    midesk_breakpoint points[MIDESK_MAX_BREAKPOINTS + 1] = {{0, false}};
+    uint8_t before[ROOM];
+    uint64_t n;
+    size_t i;
+    same("bytes of a midesk_breakpoint", sizeof(midesk_breakpoint), 8);
+    same("where its armed stands", offsetof(midesk_breakpoint, armed), 4);
+    for (i = 0; i < COUNT(rows); i++) {
+        begin_three();
+        run_to(rows[i].name, rows[i].n, rows[i].points, 3, rows[i].kind, rows[i].number, rows[i].steps);
+    }
+    begin_three();
+    run_to("MIDESK_ENDED: a null pointer", 9, NULL, 0, MIDESK_ENDED, 0, 3);
+    same("MIDESK_STOP_HALT", midesk_mark(desk), MIDESK_STOP_HALT);
+    /* As many as are allowed, with an armed one in the last place; and one more. */
+    points[MIDESK_MAX_BREAKPOINTS - 1].r15 = CODE + 7;
+    points[MIDESK_MAX_BREAKPOINTS - 1].armed = true;
+    begin_three();
+    run_to("MIDESK_MAX_BREAKPOINTS", 9, points, MIDESK_MAX_BREAKPOINTS, MIDESK_HELD, MIDESK_MAX_BREAKPOINTS - 1, 1);
+    same("MIDESK_PC", midesk_register(desk, MIDESK_PC), CODE + 7);
+    run_to("MIDESK_ENDED: goes on", 9, points, MIDESK_MAX_BREAKPOINTS, MIDESK_ENDED, 0, 2);
+    begin_three();
+    memcpy(before, desk, sizeof before);
+    for (n = 0; n < 3; n++) {
+        run_to("MIDESK_REFUSED_BREAKPOINTS", n, points, COUNT(points), MIDESK_REFUSED, MIDESK_REFUSED_BREAKPOINTS, 0);
+        run_to("MIDESK_REFUSED_BREAKPOINTS", n, many, COUNT(many), MIDESK_REFUSED, MIDESK_REFUSED_BREAKPOINTS, 0);
+    }
+    same("state of a refused run", memcmp(before, desk, sizeof before) == 0, 1);
 }
 
 /* ---- Load lists. */
@@ -695,6 +763,7 @@ int main(void)
     causes_and_stops();
     alarm_21();
     run();
+    breakpoints();
     lists();
     pieces();
     pairs();

@@ -23,7 +23,8 @@
  *
  * Link it with target/staticlib/libmidesk.a of the repository or, where embed/install has put it elsewhere, with what
  * `pkg-config --cflags --libs midesk` says. embed/c/user_mode.c shows user mode, a map and an interrupt, embed/c/load.c
- * a program that arrives as a load list, embed/c/load_both.c one that arrives as two.
+ * a program that arrives as a load list, embed/c/load_both.c one that arrives as two, embed/c/debugger.c a program that
+ * is held at a breakpoint.
  *
  * What you must ensure, since no call can check it:
  *   - mem points to len bytes that may be read and, except for midesk_fresh, written; where len is 0, any pointer will
@@ -32,12 +33,14 @@
  *   - list points to list_len bytes that may be read, and so first and second to first_len and second_len bytes; where
  *     a length is 0, any pointer will do here too;
  *   - scratch points to scratch_len bytes that may be read and written; where scratch_len is 0, any pointer will do;
+ *   - points points to count breakpoints that may be read, each with true or false as its armed; where count is 0, any
+ *     pointer will do, a null pointer too;
  *   - these do not overlap, except that first and second may, or be the same; and no other thread uses them during the
- *     call (a list may be read by others).
- * Nothing else: every content of memory, state, lists and scratch, every length and every number is answered. What
- * cannot be used is refused by a number: 1 to 7, 17 to 19, 22 or 23. A refused call changes neither state nor memory,
- * with one exception: midesk_fresh, when refused, replaces the state by the all-zero desk stopped with that number. Of
- * the refusals 23 alone changes the scratch: it is all zeros then.
+ *     call (lists and breakpoints may be read by others).
+ * Nothing else: every content of memory, state, lists and scratch, every breakpoint, every length and every number is
+ * answered. What cannot be used is refused by a number: 1 to 7, 17 to 20, 22 or 23. A refused call changes neither
+ * state nor memory, with one exception: midesk_fresh, when refused, replaces the state by the all-zero desk stopped
+ * with that number. Of the refusals 23 alone changes the scratch: it is all zeros then.
  *
  * The inline functions at the end only read and write bytes; they check nothing, and each says what it needs.
  *
@@ -48,6 +51,7 @@
 #ifndef MIDESK_H
 #define MIDESK_H
 
+#include <stdbool.h>
 #include <stddef.h>
 #include <stdint.h>
 
@@ -61,8 +65,8 @@ extern "C" {
  * comparisons in #if too: 65536 x MAJOR + 256 x MINOR + PATCH.
  */
 #define MIDESK_VERSION_MAJOR 3
-#define MIDESK_VERSION_MINOR 0
-#define MIDESK_VERSION_PATCH 1
+#define MIDESK_VERSION_MINOR 1
+#define MIDESK_VERSION_PATCH 0
 #define MIDESK_VERSION (MIDESK_VERSION_MAJOR * 65536u + MIDESK_VERSION_MINOR * 256u + MIDESK_VERSION_PATCH)
 
 /*
@@ -148,7 +152,22 @@ extern "C" {
 
 #define MIDESK_LIST_PIECES 4096 /* pieces that a list may have: its 02h, 03h and 04h */
 
-/* Answer of all calls but midesk_step and midesk_version: 0 where carried out, else why it was refused. */
+/*
+ * A breakpoint: midesk_run_to is held before the command at the address r15, where armed is true. It is compared with
+ * R15 alone, which in kernel mode is a real address, in user mode one under the map of whichever program is running.
+ * One that is not armed holds no run, but keeps its place in the list. armed is a bool: a byte other than 0 and 1 is no
+ * bool, and what the call then does is not defined. The struct has 8 bytes, of which the last three mean nothing.
+ */
+typedef struct midesk_breakpoint {
+    uint32_t r15;
+    bool armed;
+} midesk_breakpoint;
+
+#define MIDESK_MAX_BREAKPOINTS 64 /* breakpoints that a run may have, armed or not */
+
+/*
+ * Answer of all calls but midesk_step, midesk_run_to and midesk_version: 0 where carried out, else why it was refused.
+ */
 #define MIDESK_OK 0u
 #define MIDESK_REFUSED_LENGTH 1u        /* the memory length is not allowed */
 #define MIDESK_REFUSED_SYSTEM_BLOCK 2u  /* the system block's address is no multiple of 4, or the block does not fit */
@@ -161,6 +180,7 @@ extern "C" {
 #define MIDESK_REFUSED_MALFORMED 17u    /* a list has an unknown command, is cut short, or has bytes after its end */
 #define MIDESK_REFUSED_PIECES 18u       /* a list has more than MIDESK_LIST_PIECES pieces */
 #define MIDESK_REFUSED_OUTSIDE 19u      /* a list puts a byte outside memory */
+#define MIDESK_REFUSED_BREAKPOINTS 20u  /* a run has more than MIDESK_MAX_BREAKPOINTS breakpoints */
 #define MIDESK_REFUSED_SCRATCH 22u      /* the scratch is shorter than the memory */
 #define MIDESK_REFUSED_CLASH 23u        /* two lists put a byte at one address, and their last bytes there differ */
 
@@ -169,6 +189,10 @@ extern "C" {
 #define MIDESK_REFUSED 1u /* refused; the number is a MIDESK_REFUSED_... above */
 #define MIDESK_ENTERED 2u /* the kernel was entered; the number is the cause */
 #define MIDESK_STOPPED 3u /* the desk has stopped; the number is the one that it stopped with */
+
+/* The kinds of midesk_run_to's answer: MIDESK_REFUSED, or one of these. */
+#define MIDESK_ENDED 0u /* all steps are made, or the desk has stopped; the number is 0 */
+#define MIDESK_HELD 4u  /* held at a breakpoint; the number is its place in the list, from 0 */
 
 /*
  * Alarms. In user mode each is the cause of a kernel entry (or there is stop 16, where the system block's entry is not
@@ -225,6 +249,32 @@ uint64_t midesk_step(uint8_t *mem, size_t len, uint8_t state[MIDESK_STATE_BYTES]
  * midesk_running(state) for whether the desk has stopped, and at midesk_mark(state) for the number.
  */
 uint32_t midesk_run(uint8_t *mem, size_t len, uint8_t state[MIDESK_STATE_BYTES], uint64_t n, uint64_t *steps);
+
+/*
+ * A run that breakpoints hold: at most n steps as midesk_run makes them, but it also ends where it comes to an armed
+ * breakpoint, before the command there runs. State and memory are then those between two steps: look at them, change
+ * them, and go on with this or any other call. In detail:
+ *
+ *   - Before each step but the first, R15 is compared with the armed breakpoints. Before the first it is not, so a run
+ *     that begins on a breakpoint leaves it: the same call again goes on, and may be held there once more later.
+ *   - Where an interrupt is due (user mode, a pending level above the status level), the step is its kernel entry and
+ *     runs no command, so that it is not held. The run is held after it, if a breakpoint is at the kernel's command.
+ *   - After the last of n steps nothing is compared, nor on a desk that has stopped: that is MIDESK_ENDED.
+ *
+ * The answer is a kind and a number: take them with midesk_kind and midesk_number.
+ *
+ *     MIDESK_HELD     held before the command at R15. The number is the place in points, from 0, of the first armed
+ *                     breakpoint there; those before it count, armed or not.
+ *     MIDESK_ENDED    n steps are made, or the desk has stopped, as midesk_run ends. The number is 0.
+ *     MIDESK_REFUSED  as midesk_run refuses, or by MIDESK_REFUSED_BREAKPOINTS where count is above
+ *                     MIDESK_MAX_BREAKPOINTS. That is tried last, and for n = 0 too. State and memory are as they were.
+ *
+ * *steps becomes the number of steps made by this call, 0 when refused. With count 0, where points may be a null
+ * pointer, or with none armed, it makes the steps of midesk_run. Two breakpoints may be equal. They are only read, but
+ * not only at first: they must not lie in mem, nor overlap state or *steps.
+ */
+uint64_t midesk_run_to(uint8_t *mem, size_t len, uint8_t state[MIDESK_STATE_BYTES], uint64_t n,
+                       const midesk_breakpoint *points, size_t count, uint64_t *steps);
 
 /*
  * Requests an interrupt of a level from 1 to 15: sets its bit in the pending set, on a stopped desk too. It is entered
@@ -295,13 +345,14 @@ uint32_t midesk_load_both(uint8_t *mem, size_t len, const uint8_t *first, size_t
 /* The version of the archive, as MIDESK_VERSION has it: equal to it where header and archive belong together. */
 uint32_t midesk_version(void);
 
-/* The kind of midesk_step's answer: MIDESK_DONE, MIDESK_REFUSED, MIDESK_ENTERED or MIDESK_STOPPED. */
+/* The kind of an answer of midesk_step (MIDESK_DONE, _REFUSED, _ENTERED or _STOPPED) or midesk_run_to (MIDESK_ENDED,
+   _REFUSED or _HELD). */
 static inline uint32_t midesk_kind(uint64_t answer)
 {
     return (uint32_t)(answer >> 32);
 }
 
-/* The number of midesk_step's answer. */
+/* The number of such an answer. */
 static inline uint32_t midesk_number(uint64_t answer)
 {
     return (uint32_t)(answer & 0xFFFFFFFFu);

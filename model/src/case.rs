@@ -1,5 +1,6 @@
 //! A case: a memory image, a start state, calls, and what comes out.
 
+use crate::breakpoints;
 use crate::desk;
 use crate::joint;
 use crate::load;
@@ -21,6 +22,8 @@ pub enum Call {
     Load(Vec<u8>),
     /// Loads two lists together into the case's memory; the state takes no part.
     LoadBoth(Pair),
+    /// A run of so many steps to breakpoints.
+    RunTo(u32, Vec<Breakpoint>),
 }
 
 /// Bytes `first`, `first + add`, ... (modulo 256) from an address on.
@@ -41,14 +44,15 @@ pub struct Case {
     pub calls: Vec<Call>,
 }
 
-/// What one call gave. `event` is `Plain`, `count` 0 and `scratch` `AsBefore` where they don't
-/// apply.
+/// What one call gave. `event` is `Plain`, `count` 0, `held` `None` and `scratch` `AsBefore` where
+/// they don't apply.
 #[derive(Clone, Copy, PartialEq, Eq, Debug)]
 pub struct Outcome {
     pub refusal: u32,
     pub state: State,
     pub event: Event,
     pub count: u32,
+    pub held: Option<u32>,
     pub scratch: After,
 }
 
@@ -58,7 +62,7 @@ pub struct Expected {
     pub memory: Vec<u8>,
 }
 
-/// The six calls of the model or of a wrong copy of it.
+/// The seven calls of the model or of a wrong copy of it.
 #[derive(Clone, Copy)]
 pub struct Desk {
     pub fresh: fn(u64, u32, u32, u32) -> Answered,
@@ -67,6 +71,7 @@ pub struct Desk {
     pub request: fn(&State, u32) -> Answered,
     pub load: fn(&mut [u8], &[u8]) -> u32,
     pub load_both: LoadBoth,
+    pub run_to: fn(&State, &mut [u8], u64, &[Breakpoint]) -> RanTo,
 }
 
 pub const MODEL: Desk = Desk {
@@ -76,12 +81,14 @@ pub const MODEL: Desk = Desk {
     request: desk::request,
     load: load::load,
     load_both: joint::load_both,
+    run_to: breakpoints::run_to,
 };
 
 impl Desk {
     /// Makes one call.
     pub fn make(&self, call: &Call, state: &State, memory: &mut [u8]) -> Outcome {
-        let plain = Outcome { refusal: 0, state: *state, event: Event::Plain, count: 0, scratch: After::AsBefore };
+        let event = Event::Plain;
+        let plain = Outcome { refusal: 0, state: *state, event, count: 0, held: None, scratch: After::AsBefore };
         let answered = |answer: Answered| Outcome { refusal: answer.refusal, state: answer.state, ..plain };
         match call {
             Call::Step => {
@@ -100,6 +107,10 @@ impl Desk {
             Call::LoadBoth(pair) => {
                 let (refusal, scratch) = pair.load(self.load_both, memory);
                 Outcome { refusal, scratch, ..plain }
+            }
+            Call::RunTo(n, points) => {
+                let RanTo { refusal, state, count, held } = (self.run_to)(state, memory, u64::from(*n), points);
+                Outcome { refusal, state, count: count as u32, held, ..plain }
             }
         }
     }

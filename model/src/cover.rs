@@ -1,5 +1,7 @@
 //! Counts what the stored cases reach. Runs are taken apart into their steps.
 
+use crate::breakpoint_cover::{step_way, Asked, Breakpoints};
+use crate::breakpoints::run_to;
 use crate::case::{make, Call, Case};
 use crate::checks::{self, Broken};
 use crate::code::Role;
@@ -53,6 +55,7 @@ pub struct Cover {
     pub requests: Counts<(u32, &'static str)>,
     pub lists: Lists,
     pub joint: Joint,
+    pub breakpoints: Breakpoints,
 }
 
 pub fn add<K: Ord>(counts: &mut Counts<K>, key: K) {
@@ -77,6 +80,7 @@ fn kind(call: &Call) -> &'static str {
         Call::Fresh { .. } => "fresh",
         Call::Load(_) => "load",
         Call::LoadBoth(_) => "load both",
+        Call::RunTo(..) => "run to",
     }
 }
 
@@ -86,13 +90,13 @@ impl Cover {
     }
 
     /// Makes a step that isn't refused, and counts.
-    fn step(&mut self, before: &State, memory: &mut [u8]) -> (State, Event) {
+    fn step(&mut self, before: &State, memory: &mut [u8]) -> (State, Event, Notes) {
         let mut notes = Notes::kept();
         let seen = Before::of(before, memory);
         let answer = desk::step_noting(&mut notes, before, memory);
         self.stepped(before, &answer.state, &answer.event, notes.list());
         self.fetches.stepped(before, &seen, &answer.state, notes.list(), memory);
-        (answer.state, answer.event)
+        (answer.state, answer.event, notes)
     }
 
     fn stepped(&mut self, before: &State, after: &State, event: &Event, notes: &[Note]) {
@@ -182,13 +186,16 @@ impl Cover {
         let mut state = case.start;
         let mut loads = Loads { put: vec![false; memory.len()], last: None, two: false };
         self.fetches.begins();
+        self.breakpoints.begins();
         for call in &case.calls {
+            self.breakpoints.called(call);
             let judged = match call {
                 Call::Step | Call::Run(_) => checks::of_step(&state, &memory),
                 Call::Request(level) => checks::of_request(&state, *level),
                 Call::Fresh { system, control, .. } => checks::of_fresh(memory.len() as u64, *system, *control),
                 Call::Load(list) => self.load(&memory, list, &mut loads),
                 Call::LoadBoth(pair) => self.load_both(&memory, pair, &mut loads),
+                Call::RunTo(n, points) => self.breakpoints.judged(&state, &memory, &Asked { n: *n, points }),
             };
             match (judged, call) {
                 (Err(broken), _) => {
@@ -208,6 +215,9 @@ impl Cover {
                         (Some(false), true) => add(&mut self.joint.calls, "a run after a refused pair"),
                         (None, _) => {}
                     }
+                }
+                (Ok(()), Call::RunTo(n, points)) => {
+                    state = self.run_to(&Asked { n: *n, points }, &state, &mut memory);
                 }
                 (Ok(()), Call::Request(level)) => {
                     let fate = match (state.stopped(), state.pending >> level & 1 == 1) {
@@ -253,12 +263,32 @@ impl Cover {
         judged
     }
 
+    fn run_to(&mut self, asked: &Asked, start: &State, memory: &mut [u8]) -> State {
+        let answer = run_to(start, &mut memory.to_vec(), u64::from(asked.n), asked.points);
+        let mut state = *start;
+        let mut done = 0;
+        let mut way = "nothing";
+        let mut held = self.breakpoints.moment(asked, done, &state);
+        while !held && done < asked.n && !state.stopped() {
+            let old = memory.to_vec();
+            let (after, event, notes) = self.step(&state, memory);
+            self.breakpoints.passed(asked, &state, &old, &after);
+            way = step_way(&state, &after, &event, &notes);
+            state = after;
+            done += 1;
+            held = self.breakpoints.moment(asked, done, &state);
+        }
+        assert_eq!((answer.state, answer.count, answer.held.is_some()), (state, u64::from(done), held));
+        self.breakpoints.ended(asked, start, &answer, memory, way);
+        state
+    }
+
     fn run(&mut self, n: u32, start: &State, memory: &mut [u8]) -> State {
         let mut state = *start;
         let mut entries = 0;
         let mut done = 0;
         while done < n && !state.stopped() {
-            let (after, event) = self.step(&state, memory);
+            let (after, event, _) = self.step(&state, memory);
             if matches!(event, Event::Entry { .. }) {
                 entries += 1;
             }

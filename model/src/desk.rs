@@ -61,7 +61,7 @@ pub fn run(state: &State, memory: &mut [u8], n: u64) -> Ran {
 }
 
 /// One step of a running desk that has passed 1 to 5.
-fn one_step(notes: &mut Notes, start: &State, memory: &mut [u8]) -> (State, Event) {
+pub fn one_step(notes: &mut Notes, start: &State, memory: &mut [u8]) -> (State, Event) {
     if let Some(level) = entry::interrupt(start) {
         return entry::interrupted(notes, start, level, memory);
     }

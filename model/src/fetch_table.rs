@@ -168,7 +168,7 @@ impl Fetches {
 }
 
 /// How a command led from one address to another.
-fn way(byte: u8, from: u32, to: u32) -> &'static str {
+pub fn way(byte: u8, from: u32, to: u32) -> &'static str {
     let operands = decode(byte).map_or(0, |known| known.operands.len() as u32);
     match byte {
         _ if to == from.wrapping_add(1 + 6 * operands) => "straight on",

@@ -268,15 +268,12 @@ impl Joint {
     }
 }
 
-fn row<K: Ord>(table: &mut Table, counts: &Counts<K>, name: &str, cells: Vec<(K, bool)>) {
-    table.row(counts, "joint loading", name, 50, cells);
-}
+/// What missing cells are called, and the room for a row's name.
+const SUBJECT: &str = "joint loading";
+const ROOM: usize = 50;
 
-/// Rows of one cell each.
-fn column(table: &mut Table, counts: &Counts<&'static str>, names: &[&'static str]) {
-    for name in names {
-        row(table, counts, name, vec![(*name, true)]);
-    }
+fn row<K: Ord>(table: &mut Table, counts: &Counts<K>, name: &str, cells: Vec<(K, bool)>) {
+    table.row(counts, SUBJECT, name, ROOM, cells);
 }
 
 pub fn pairs(cover: &Cover, table: &mut Table) {
@@ -386,7 +383,7 @@ pub fn pairs(cover: &Cover, table: &mut Table) {
         "the second's byte is the memory's",
         "between addresses that agree",
     ];
-    column(table, &joint.clashes, &names);
+    table.column(&joint.clashes, SUBJECT, ROOM, &names);
     row(table, &joint.bits, "in one bit (of value 1 to 80h)", (0..8).map(|bit| (bit, true)).collect());
     println!("Joint loading: pieces of pairs that load or clash, and of pairs that 18 refuses");
     let names = [
@@ -400,7 +397,7 @@ pub fn pairs(cover: &Cover, table: &mut Table) {
         "few of the first, 4,097 of the second",
         "4,097 of each",
     ];
-    column(table, &joint.pieces, &names);
+    table.column(&joint.pieces, SUBJECT, ROOM, &names);
     println!("Joint loading: pairs that load, and pairs among other calls");
     let names = [
         "a list with itself",
@@ -418,6 +415,6 @@ pub fn pairs(cover: &Cover, table: &mut Table) {
         "a run after a pair",
         "a run after a refused pair",
     ];
-    column(table, &joint.calls, &names);
+    table.column(&joint.calls, SUBJECT, ROOM, &names);
     println!();
 }

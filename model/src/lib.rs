@@ -3,7 +3,11 @@
 
 pub mod arith;
 pub mod asm;
+pub mod breakpoint_cover;
+pub mod breakpoint_table;
+pub mod breakpoints;
 pub mod case;
+pub mod cells;
 pub mod checks;
 pub mod code;
 pub mod commands;
@@ -22,6 +26,7 @@ pub mod map;
 pub mod notes;
 pub mod operand;
 pub mod pair;
+pub mod points;
 pub mod rng;
 pub mod sequences;
 pub mod shift_table;

@@ -104,6 +104,23 @@ pub struct Ran {
     pub count: u64,
 }
 
+/// A breakpoint: an R15 value, and whether it is armed.
+#[derive(Clone, Copy, PartialEq, Eq, Debug)]
+pub struct Breakpoint {
+    pub r15: u32,
+    pub armed: bool,
+}
+
+/// Answer of a run to breakpoints. `held` is the place, from 0, of the one that held it; `None`
+/// where none did.
+#[derive(Clone, Copy, PartialEq, Eq, Debug)]
+pub struct RanTo {
+    pub refusal: u32,
+    pub state: State,
+    pub count: u64,
+    pub held: Option<u32>,
+}
+
 /// Answer of a level request and of the call that makes a fresh desk.
 #[derive(Clone, Copy, PartialEq, Eq, Debug)]
 pub struct Answered {

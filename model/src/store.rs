@@ -22,14 +22,16 @@
 //!   u16       number of calls
 //!   the calls:
 //!     u8        kind: 0 step, 1 run, 2 level request, 3 fresh desk, 4 load,
-//!               5 load both
+//!               5 load both, 6 run to
 //!     arguments: step none; run u32 n; request u32 level; fresh u32 system
 //!               block, u32 control block, u32 start (its memory length is
 //!               the case's); load u32 n, then the n bytes of the list; load
 //!               both u32 n, then the n bytes of the first list, the same for
 //!               the second, then the scratch before the call: u32 length (at
 //!               most 65,536 if the memory has at most that), u8 first, u8 add;
-//!               its byte i is (first + i × add) modulo 256
+//!               its byte i is (first + i × add) modulo 256; run to u32 n, then
+//!               u32 number of breakpoints (at most 70), then for each u32 R15
+//!               value, u8 armed: 0 no, 1 yes
 //!     u8        refusal, 0 for none
 //!     step only:
 //!       u8      event: 0 nothing special (or refused), 1 entry, 2 stop
@@ -38,6 +40,8 @@
 //!               before the call and 0
 //!       stop:   u32 number
 //!     run only: u32 count
+//!     run to only: u32 count, then u8 held: 0 no, 1 yes
+//!       held:   u32 place of the breakpoint, from 0
 //!     load both only: u8 scratch afterwards: 0 as before the call, 1 all
 //!               zeros; where it was all zeros before, or has no bytes, 1 if
 //!               the refusal is 0 or 23, else 0
@@ -53,8 +57,13 @@
 //! 0) upward: the new value of that word. The words of a state are those of
 //! `words.rs`.
 
+mod reading;
+
+pub use reading::read;
+
 use crate::case::*;
 use crate::pair::*;
+use crate::points;
 use crate::state::*;
 use crate::words::*;
 
@@ -181,6 +190,11 @@ fn case_to(out: &mut Vec<u8>, case: &Case, expected: &Expected) {
                 u32_to(out, scratch.length);
                 out.extend([scratch.first, scratch.add]);
             }
+            Call::RunTo(n, points) => {
+                out.push(6);
+                u32_to(out, *n);
+                out.extend(points::bytes(points));
+            }
         }
         out.push(outcome.refusal as u8);
         match call {
@@ -199,6 +213,11 @@ fn case_to(out: &mut Vec<u8>, case: &Case, expected: &Expected) {
             },
             Call::Run(_) => u32_to(out, outcome.count),
             Call::LoadBoth(_) => out.push(outcome.scratch.number()),
+            Call::RunTo(..) => {
+                u32_to(out, outcome.count);
+                out.push(u8::from(outcome.held.is_some()));
+                out.extend(outcome.held.into_iter().flat_map(u32::to_be_bytes));
+            }
             _ => {}
         }
         changes_to(out, &words(&before), &words(&outcome.state));
@@ -229,128 +248,4 @@ pub fn write(cases: &[(Case, Expected)]) -> Vec<u8> {
         out.extend(bytes);
     }
     out
-}
-
-struct Reader<'a> {
-    bytes: &'a [u8],
-    at: usize,
-}
-
-impl Reader<'_> {
-    fn take(&mut self, count: usize) -> &[u8] {
-        self.at += count;
-        &self.bytes[self.at - count..self.at]
-    }
-
-    fn number(&mut self, count: usize) -> u32 {
-        self.take(count).iter().fold(0, |value, byte| value << 8 | u32::from(*byte))
-    }
-
-    fn list(&mut self) -> Vec<u8> {
-        let length = self.number(4) as usize;
-        self.take(length).to_vec()
-    }
-
-    fn changes(&mut self, words: &mut [u32]) {
-        let mask = self.number(4);
-        for (i, word) in words.iter_mut().enumerate() {
-            if mask >> i & 1 == 1 {
-                *word = self.number(4);
-            }
-        }
-    }
-
-    fn case(&mut self) -> (Case, Expected) {
-        let mut image = vec![0; self.number(4) as usize];
-        let mut ramps = Vec::new();
-        for _ in 0..self.number(2) {
-            let kind = self.number(1);
-            let at = self.number(4);
-            let length = self.number(2);
-            if kind == 1 {
-                let ramp = Ramp { at, length: length as u16, first: self.number(1) as u8, add: self.number(1) as u8 };
-                fill_ramp(&mut image, &ramp);
-                ramps.push(ramp);
-            } else {
-                image[at as usize..(at + length) as usize].copy_from_slice(self.take(length as usize));
-            }
-        }
-        let mut state = [0; WORDS];
-        self.changes(&mut state);
-        let start = state_of(&state);
-        let mut calls = Vec::new();
-        let mut outcomes = Vec::new();
-        for _ in 0..self.number(2) {
-            let (call, outcome) = self.call(&mut state);
-            calls.push(call);
-            outcomes.push(outcome);
-        }
-        let mut memory = image.clone();
-        for _ in 0..self.number(2) {
-            let at = self.number(4) as usize;
-            let length = self.number(2) as usize;
-            memory[at..at + length].copy_from_slice(self.take(length));
-        }
-        (Case { ramps, image, start, calls }, Expected { outcomes, memory })
-    }
-
-    fn call(&mut self, state: &mut Words) -> (Call, Outcome) {
-        let before = state_of(state);
-        let call = match self.number(1) {
-            0 => Call::Step,
-            1 => Call::Run(self.number(4)),
-            2 => Call::Request(self.number(4)),
-            3 => Call::Fresh { system: self.number(4), control: self.number(4), start: self.number(4) },
-            4 => Call::Load(self.list()),
-            5 => {
-                let [first, second] = [self.list(), self.list()];
-                let scratch =
-                    Scratch { length: self.number(4), first: self.number(1) as u8, add: self.number(1) as u8 };
-                Call::LoadBoth(Pair { first, second, scratch })
-            }
-            other => panic!("a call of kind {other}"),
-        };
-        let refusal = self.number(1);
-        let mut event = Event::Plain;
-        let mut count = 0;
-        let mut scratch = After::AsBefore;
-        match call {
-            Call::Step => match self.number(1) {
-                0 => {}
-                1 => {
-                    let cause = self.number(1);
-                    let mut words = unsaved(&before);
-                    self.changes(&mut words);
-                    let mut saved = [0; SAVED_BYTES];
-                    for (i, word) in words.iter().enumerate() {
-                        saved[4 * i..4 * i + 4].copy_from_slice(&word.to_be_bytes());
-                    }
-                    event = Event::Entry { cause, saved };
-                }
-                _ => event = Event::Stop(self.number(4)),
-            },
-            Call::Run(_) => count = self.number(4),
-            Call::LoadBoth(_) => scratch = After::of_number(self.number(1)),
-            _ => {}
-        }
-        self.changes(state);
-        (call, Outcome { refusal, state: state_of(state), event, count, scratch })
-    }
-}
-
-/// Reads a file of stored cases.
-pub fn read(bytes: &[u8]) -> Vec<(Case, Expected)> {
-    let mut reader = Reader { bytes, at: 0 };
-    assert_eq!(reader.take(8), MAGIC);
-    let count = reader.number(4);
-    reader.take(12);
-    let mut cases = Vec::new();
-    for _ in 0..count {
-        let length = reader.number(4) as usize;
-        let end = reader.at + length;
-        cases.push(reader.case());
-        assert_eq!(reader.at, end);
-    }
-    assert_eq!(reader.at, bytes.len());
-    cases
 }

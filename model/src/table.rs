@@ -1,44 +1,10 @@
 //! Prints the coverage tables and finds what is missing.
 
+pub use crate::cells::Table;
+
 use crate::code::{decode, Op, Role};
-use crate::cover::{Counts, Cover, FINE};
+use crate::cover::{Cover, FINE};
 use crate::work::Part;
-
-/// Collects cells; a cell that must be reached and isn't is missing.
-#[derive(Default)]
-pub struct Table {
-    pub cells: u32,
-    pub impossible: u32,
-    pub missing: Vec<String>,
-}
-
-impl Table {
-    /// One cell's text. `wanted` says that the rules allow it.
-    pub fn cell<K: Ord>(&mut self, counts: &Counts<K>, key: K, wanted: bool, name: String) -> String {
-        let count = counts.get(&key).copied().unwrap_or(0);
-        if !wanted {
-            self.impossible += 1;
-            assert_eq!(count, 0, "reached, though impossible: {name}");
-            return "-".to_string();
-        }
-        self.cells += 1;
-        if count == 0 {
-            self.missing.push(name);
-            return "MISSING".to_string();
-        }
-        count.to_string()
-    }
-
-    /// Prints a row of cells behind its name, which has so much room.
-    pub fn row<K: Ord>(&mut self, counts: &Counts<K>, subject: &str, name: &str, room: usize, cells: Vec<(K, bool)>) {
-        let mut line = format!("  {name:room$}");
-        for (column, (key, wanted)) in cells.into_iter().enumerate() {
-            let cell = self.cell(counts, key, wanted, format!("{subject}, {name}, column {}", column + 1));
-            line += &format!("{cell:>8}");
-        }
-        println!("{line}");
-    }
-}
 
 const ROLES: [(&str, Role); 4] = [
     ("value", Role::Value),
@@ -294,22 +260,22 @@ pub fn entries(cover: &Cover, table: &mut Table) {
 }
 
 pub fn refusals(cover: &Cover, table: &mut Table) {
-    println!("Refusals by call (step, run, request, fresh, load)");
+    println!("Refusals by call (step, run, run to, request, fresh, load)");
     let list = [
-        (1, "length 0", "srfl"),
-        (1, "length above 16,777,216", "srf"),
-        (1, "length no multiple of 512", "srfl"),
-        (2, "system block no multiple of 4", "srf"),
-        (2, "system block doesn't fit", "srf"),
-        (3, "control block no multiple of 4", "srf"),
-        (3, "control block doesn't fit", "srf"),
-        (4, "map base no multiple of 4", "sr"),
-        (4, "map doesn't fit", "sr"),
-        (5, "status has an undefined bit", "srq"),
-        (5, "pending set has level 0", "srq"),
+        (1, "length 0", "srtfl"),
+        (1, "length above 16,777,216", "srtf"),
+        (1, "length no multiple of 512", "srtfl"),
+        (2, "system block no multiple of 4", "srtf"),
+        (2, "system block doesn't fit", "srtf"),
+        (3, "control block no multiple of 4", "srtf"),
+        (3, "control block doesn't fit", "srtf"),
+        (4, "map base no multiple of 4", "srt"),
+        (4, "map doesn't fit", "srt"),
+        (5, "status has an undefined bit", "srtq"),
+        (5, "pending set has level 0", "srtq"),
         (6, "level 0", "q"),
         (6, "level above 15", "q"),
-        (7, "stopped", "sr"),
+        (7, "stopped", "srt"),
         (17, "empty list", "l"),
         (17, "no end", "l"),
         (17, "01h cut short", "l"),
@@ -325,10 +291,12 @@ pub fn refusals(cover: &Cover, table: &mut Table) {
         (19, "03h across the memory's end", "l"),
         (19, "04h outside memory", "l"),
         (19, "04h across the memory's end", "l"),
+        (20, "more than 64 breakpoints", "t"),
     ];
     for (number, reason, calls) in list {
         let mut line = format!("  {number:2} {reason:32}");
-        for (letter, kind) in [('s', "step"), ('r', "run"), ('q', "request"), ('f', "fresh"), ('l', "load")] {
+        let kinds = [('s', "step"), ('r', "run"), ('t', "run to"), ('q', "request"), ('f', "fresh"), ('l', "load")];
+        for (letter, kind) in kinds {
             let label = format!("refusal {number} of {kind}: {reason}");
             let cell = table.cell(&cover.refusals, (number, kind, reason), calls.contains(letter), label);
             line += &format!("{cell:>8}");
@@ -336,9 +304,12 @@ pub fn refusals(cover: &Cover, table: &mut Table) {
         println!("{line}");
     }
     println!(
-        "  impossible: a request tries 5 and 6 only, a fresh desk 1 to 3, step and run 1 to 7 but for 6, a load 1 and"
+        "  impossible: a request tries 5 and 6 only, a fresh desk 1 to 3, step and run 1 to 7 but for 6, a run to"
     );
-    println!("  17 to 19. A load into more than 65,536 bytes is no stored case; a unit test tries it\n");
+    println!(
+        "  breakpoints these and 20, a load 1 and 17 to 19. A load into more than 65,536 bytes is no stored case; a"
+    );
+    println!("  unit test tries it\n");
     println!("Runs");
     for what in [
         "of 0 steps",

@@ -11,6 +11,7 @@
 //! - the nine forms with their rules (14), R15 inside an operand, flags;
 //! - the map and alarms 8 to 13 and 21, the undoing of a command that alarms;
 //! - refusals 1 to 5 and 7, interrupts, kernel entry and stop 16, the step count;
+//! - runs with breakpoints (`breakpoints.rs`);
 //! - load lists with their refusals (`load.rs`), and two of them together (`load_both.rs`).
 //!
 //! Not covered: every other command (it gives alarm 12, as an unknown byte does), the system call and RESUME among them;
@@ -18,6 +19,7 @@
 #![forbid(unsafe_code)]
 
 mod arithmetic;
+mod breakpoints;
 mod command;
 mod entry;
 mod load;
@@ -28,6 +30,7 @@ mod stack;
 
 use crate::state::{State, KERNEL, RUNNING};
 
+pub use breakpoints::run_to;
 #[cfg(test)]
 pub use command::covers;
 pub use load::load;
@@ -53,13 +56,14 @@ pub fn run<const ONE_LOOKUP: bool>(memory: &mut [u8], desk: &mut State, n: u64) 
     entry::refusal(memory, desk)?;
     let mut steps = 0;
     while steps < n && desk.stopped == RUNNING {
-        step::<ONE_LOOKUP>(memory, desk);
+        step::<ONE_LOOKUP, false>(memory, desk);
         steps += 1;
     }
     Ok(steps)
 }
 
-fn step<const ONE_LOOKUP: bool>(memory: &mut [u8], desk: &mut State) {
+/// One step. Runs with breakpoints and runs without have a copy each, which the compiler then puts in line.
+fn step<const ONE_LOOKUP: bool, const BREAKPOINTS: bool>(memory: &mut [u8], desk: &mut State) {
     if let Some(level) = entry::interrupt(desk) {
         return entry::interrupted(memory, desk, level);
     }

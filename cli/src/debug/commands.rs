@@ -1,8 +1,9 @@
 //! The commands of the prompt: one table of names, help and what they do.
 
 use super::history::History;
-use super::{listing, looks, moves};
+use super::{breakpoints, listing, looks, moves};
 use crate::atlas;
+use crate::breakpoints::Breakpoints;
 use crate::code;
 use crate::machine::Machine;
 use crate::options;
@@ -13,6 +14,7 @@ use std::io::{self, Write};
 pub struct Session {
     pub machine: Machine,
     pub history: History,
+    pub breakpoints: Breakpoints,
     /// Where commands begin: real addresses.
     pub code: BTreeSet<u32>,
     /// The line that an empty one repeats.
@@ -68,13 +70,27 @@ const fn row(names: &'static [&'static str], written: &'static str, text: &'stat
 
 const ROWS: &[Row] = &[
     row(&["step", "s"], "step [N], s", "makes N steps (1) and shows each", moves::step),
-    row(&["run", "r", "continue", "c"], "run [N], r, c", "runs to a stop, at most N steps (1,000,000)", moves::run),
+    row(
+        &["run", "r", "continue", "c"],
+        "run [N], r, c",
+        "runs on to a stop or a breakpoint, at most N steps (1,000,000)",
+        moves::run,
+    ),
     row(
         &["until", "u"],
         "until WHERE, u",
         "runs until the next command is at an address or name; to the next kernel entry: `until entry`, or `until entry:11` for one cause; to the end: `until stop`",
         moves::until,
     ),
+    row(
+        &["break", "b", "br", "breakpoint"],
+        "break [PLACE], b",
+        "sets a breakpoint before the command at an address or name; without one lists them",
+        breakpoints::set,
+    ),
+    row(&["delete", "d"], "delete N, d", "deletes breakpoint N", breakpoints::delete),
+    row(&["enable"], "enable N", "arms breakpoint N again", breakpoints::enable),
+    row(&["disable"], "disable N", "switches breakpoint N off, so that it holds nothing", breakpoints::disable),
     row(&["undo", "back"], "undo [N], back", "undoes the last N steps or requests (1); it remembers 100,000", moves::undo),
     row(&["request"], "request LEVEL", "requests an interrupt level, 1 to 15", moves::request),
     row(&["where", "w"], "where, w", "shows how many steps are made and what is next", looks::place),
@@ -88,7 +104,7 @@ const ROWS: &[Row] = &[
         looks::map,
     ),
     row(&["blocks"], "blocks", "shows the system block and the control blocks, with the registers that they hold saved", looks::blocks),
-    row(&["info", "i"], "info [WHAT], i", "shows registers, map or blocks", looks::info),
+    row(&["info", "i"], "info [WHAT], i", "shows registers, map, blocks or breakpoints", looks::info),
     row(&["help", "h", "?"], "help [COMMAND], h, ?", "lists the commands, or tells of one", help),
     row(&["quit", "q", "exit"], "quit, q", "ends the dialogue", quit),
 ];
@@ -110,7 +126,8 @@ impl Session {
             machine.known.programs = atlas::found_programs(&machine);
         }
         let code = code::known(&machine);
-        Session { machine, history: History::new(), code, last: String::new(), onward: None }
+        let breakpoints = Breakpoints::default();
+        Session { machine, history: History::new(), breakpoints, code, last: String::new(), onward: None }
     }
 
     /// Carries out a line.
@@ -138,14 +155,15 @@ impl Session {
 
 /// Commands of other debuggers, and what there is here instead.
 const ELSEWHERE: &[(&[&str], &str)] = &[
-    (
-        &["break", "b", "br", "tbreak", "breakpoint", "watch", "delete", "d", "advance"],
-        "`until WHERE` runs to an address, a name or a kernel entry; it holds once",
-    ),
+    (&["tbreak", "advance"], "`until WHERE` runs to an address, a name or a kernel entry; it holds once"),
+    (&["catch"], "`until entry` runs to the next kernel entry, `until entry:11` to one of that cause"),
+    (&["watch", "rwatch", "awatch"], "`break PLACE` holds before a command; no access to memory holds a run"),
+    (&["clear"], "`delete N` deletes a breakpoint, `break` lists them"),
+    (&["condition", "ignore", "commands"], "a breakpoint holds whenever it is armed; `disable N` switches it off"),
     (&["print", "p", "display", "inspect"], "`registers` shows registers, `memory A` memory, `list A` commands"),
     (
         &["set", "assign", "poke", "write"],
-        "state is changed by steps and undone by `undo`, nothing else; to change the program, change its source",
+        "state is changed by steps and undone by `undo`, nothing else; to change the program, change its source; `break PLACE` sets a breakpoint",
     ),
     (
         &["next", "n", "stepi", "si", "nexti", "ni"],

@@ -1,8 +1,7 @@
 //! `list`: commands where there are commands, data as data.
 
 use super::commands::{count, nothing_more, Done, Session};
-use super::looks::no_address;
-use crate::code::in_program;
+use crate::code::{in_kernel, in_program};
 use crate::decode::Decoded;
 use crate::effect;
 use crate::hints;
@@ -13,7 +12,7 @@ use crate::notation;
 use crate::options;
 use crate::trace;
 use crate::words;
-use midesk::{numbers, Desk};
+use midesk::Desk;
 use std::collections::BTreeSet;
 use std::io::Write;
 
@@ -58,16 +57,13 @@ fn viewed(machine: &Machine, text: &str) -> Result<(Desk, Option<u32>), String> 
         return Ok((machine.desk.clone(), Some(address)));
     }
     if let Some(address) = options::address(text, &known.real) {
-        let mut desk = machine.desk.clone();
-        desk.set_status(numbers::KERNEL);
-        return Ok((desk, Some(address)));
+        return Ok((in_kernel(&machine.desk), Some(address)));
     }
     let of_program = known.programs.iter().find_map(|program| {
         let address = options::address(text, &program.names)?;
-        let desk = in_program(&machine.desk, program.control_block, program.map_base, program.map_length);
-        Some((desk, Some(address)))
+        Some((in_program(&machine.desk, program), Some(address)))
     });
-    of_program.ok_or_else(|| no_address(known, text))
+    of_program.ok_or_else(|| known.no_address(text))
 }
 
 /// The memory with the addresses of a mode.

@@ -1,12 +1,13 @@
 //! Commands that show: where, registers, memory, map, blocks.
 
+use super::breakpoints;
 use super::commands::{count, nothing_more, Done, Session};
 use crate::atlas::Atlas;
 use crate::blocks as blocks_;
 use crate::dump;
 use crate::effect;
 use crate::hints;
-use crate::machine::{due, Known};
+use crate::machine::due;
 use crate::map as map_;
 use crate::notation::hexadecimal;
 use crate::options;
@@ -51,21 +52,17 @@ pub fn registers(session: &mut Session, arguments: &[&str], out: &mut dyn Write)
     Ok(())
 }
 
-/// `info registers`, `info map`, `info blocks`, as gdb has it.
+/// `info registers`, `info map`, `info blocks`, `info breakpoints`, as gdb has it.
 pub fn info(session: &mut Session, arguments: &[&str], out: &mut dyn Write) -> Done {
     match arguments.split_first() {
         None | Some((&("registers" | "r"), [])) => registers(session, &[], out),
         Some((&"map", rest)) => map(session, rest, out),
         Some((&"blocks", rest)) => blocks(session, rest, out),
+        Some((&("breakpoints" | "break" | "b"), [])) => breakpoints::list(session, out),
         Some((other, _)) => {
-            Err(format!("there is no info '{}': registers, map or blocks", options::shown(other)).into())
+            Err(format!("there is no info '{}': registers, map, blocks or breakpoints", options::shown(other)).into())
         }
     }
-}
-
-/// The sentence for what is no address; its example is a name that the file has.
-pub fn no_address(known: &Known, text: &str) -> String {
-    format!("'{}' is no address: {}", options::shown(text), known.address_words(text))
 }
 
 /// What `memory` is to show: the first address, and whether it is a real one.
@@ -78,7 +75,7 @@ fn shown_from(session: &Session, text: &str, real: bool) -> Result<(u32, bool), 
         }
     }
     let address = machine.known.real_address(&machine.memory, text);
-    address.map(|address| (address, true)).ok_or_else(|| no_address(&machine.known, text))
+    address.map(|address| (address, true)).ok_or_else(|| machine.known.no_address(text))
 }
 
 pub fn memory(session: &mut Session, arguments: &[&str], out: &mut dyn Write) -> Done {

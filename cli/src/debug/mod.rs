@@ -1,5 +1,6 @@
 //! `desk debug FILE`: plain lines in, plain lines out, over a desk that can also go back.
 
+mod breakpoints;
 mod commands;
 mod history;
 mod listing;

@@ -1,6 +1,6 @@
 //! Commands that move the desk: step, run, until, undo, request.
 
-use super::commands::{count, nothing_more, Done, Session};
+use super::commands::{count, nothing_more, Done, Fault, Session};
 use super::looks;
 use crate::machine::Step;
 use crate::plan::{self, Until};
@@ -21,6 +21,16 @@ impl Session {
         let step = self.machine.step().map_err(|refusal| refused(self, refusal))?;
         self.history.step(&step);
         Ok(step)
+    }
+
+    /// Whether a breakpoint holds the desk before its next step, which is said.
+    fn is_held(&self, out: &mut dyn Write) -> Result<bool, Fault> {
+        let machine = &self.machine;
+        let Some(breakpoint) = self.breakpoints.holding(&machine.desk) else { return Ok(false) };
+        let end = breakpoint.end(&machine.known, &machine.desk);
+        writeln!(out, "{}", report::headline(machine, &end, None))?;
+        looks::next(self, out)?;
+        Ok(true)
     }
 
     fn show(&self, step: &Step, out: &mut dyn Write) -> std::io::Result<()> {
@@ -52,7 +62,10 @@ fn refused(session: &Session, refusal: Refusal) -> String {
 pub fn step(session: &mut Session, arguments: &[&str], out: &mut dyn Write) -> Done {
     let n = count(arguments.first())?.unwrap_or(1);
     nothing_more(arguments.get(1..).unwrap_or_default())?;
-    for _ in 0..n {
+    for made in 0..n {
+        if made > 0 && session.is_held(out)? {
+            return Ok(());
+        }
         let step = session.one()?;
         session.show(&step, out)?;
         if let Event::Stopped(number) = step.event {
@@ -68,9 +81,12 @@ pub fn run(session: &mut Session, arguments: &[&str], out: &mut dyn Write) -> Do
     go(session, n, None, out)
 }
 
-/// Runs until something is reached, if that is asked for; that step is shown.
+/// Runs until something is reached, if that is asked for; that step is shown. A breakpoint holds it before.
 fn go(session: &mut Session, n: u64, until: Option<&Until>, out: &mut dyn Write) -> Done {
-    for _ in 0..n {
+    for made in 0..n {
+        if made > 0 && session.is_held(out)? {
+            return Ok(());
+        }
         let step = session.one()?;
         if let Event::Stopped(number) = step.event {
             session.stopped(number, out)?;

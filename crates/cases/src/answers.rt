@@ -17,6 +17,8 @@ use crate::snapshot::same_words;
 use crate::snapshot::saved_at;
 use crate::snapshot::unsaved;
 use crate::snapshot::words_of;
+use breakpoints::RunToAnswer;
+use breakpoints::RunToReply;
 use machine::Answer;
 use machine::Desk;
 use machine::Reply;
@@ -213,6 +215,47 @@ pub fn check_run(s: &[u8], at: usize, before: Words, reply: RunReply) -> Checked
     let refusal = refusal_difference(answer, s, at);
     let count = count_difference(reply.steps, s, past(s, at, 1));
     check_state(s, past(s, at, 5), before, refusal.or(count), desk)
+}
+
+fn run_to_refusal(a: RunToAnswer) -> u32 {
+    match a {
+        RunToAnswer::Refused(k) => k.number(),
+        _ => 0,
+    }
+}
+
+// Whether a run was held, against a u8 that is 1 where it was, and the place, against the u32 at a
+// position.
+fn hold_difference(a: RunToAnswer, held: u8, s: &[u8], at: usize) -> Difference {
+    match a {
+        RunToAnswer::Held(place) => {
+            if held == 1 && place == word_at(s, at) as usize {
+                return Difference::Nothing;
+            }
+            Difference::Hold
+        }
+        _ => unless_equal(wide(held), 0, Difference::Hold),
+    }
+}
+
+// The reply to a run with breakpoints: u8 refusal, u32 count, u8 held, u32 place where it was, and the
+// state.
+pub fn check_run_to(s: &[u8], at: usize, before: Words, reply: RunToReply) -> Checked {
+    let answer = reply.answer;
+    let desk = reply.desk;
+    let refusal = unless_equal(
+        run_to_refusal(answer),
+        wide(byte_at(s, at)),
+        Difference::Refusal,
+    );
+    let count = count_difference(reply.steps, s, past(s, at, 1));
+    let held = byte_at(s, past(s, at, 5));
+    let hold = hold_difference(answer, held, s, past(s, at, 6));
+    let what = refusal.or(count).or(hold);
+    if held == 0 {
+        return check_state(s, past(s, at, 6), before, what, desk);
+    }
+    check_state(s, past(s, at, 10), before, what, desk)
 }
 
 // The reply to a step: an event; for an entry the words that it saved, in mem; and the state.

@@ -10,6 +10,8 @@ pub enum Difference {
     Saved,
     // The steps that a run counts.
     Count,
+    // Whether a run was held, and by which breakpoint.
+    Hold,
     State,
     Memory,
     // The scratch that joint loading leaves.

@@ -3,9 +3,9 @@
 //
 // A case is a memory, a state and calls, with the model's answer to each call, its state after it,
 // and its memory at the end. Compared are refusals, events with their cause or stop number, the
-// words that a kernel entry saves, the steps that a run counts, the whole state after each call,
-// and the whole memory after the last. A case that differs prints a line with its first difference,
-// cases and calls counted from 1:
+// words that a kernel entry saves, the steps that a run counts, whether and where it was held, the
+// whole state after each call, and the whole memory after the last. A case that differs prints a
+// line with its first difference, cases and calls counted from 1:
 //
 //     case 17: call 3: state
 //

@@ -1,10 +1,12 @@
 // A case, played on the desk.
+use breakpoints::Breakpoint;
 use cases::answers::Checked;
 use cases::answers::check_both;
 use cases::answers::check_load;
 use cases::answers::check_memory;
 use cases::answers::check_reply;
 use cases::answers::check_run;
+use cases::answers::check_run_to;
 use cases::answers::check_step;
 use cases::difference::Difference;
 use cases::difference::Verdict;
@@ -19,6 +21,7 @@ use cases::snapshot::Words;
 use cases::snapshot::changed;
 use cases::snapshot::desk_of;
 use cases::snapshot::no_words;
+use listed::ROOM;
 use machine::RealAddress;
 use machine::VirtualAddress;
 
@@ -47,6 +50,44 @@ fn run(s: &[u8], at: usize, before: Words, mem: &mut [u8]) -> Checked {
     let n = word_at(s, at) as u64;
     let reply = desk::run(desk_of(before), mem, n);
     check_run(s, past(s, at, 4), before, reply)
+}
+
+// u32 R15, u8 armed.
+fn breakpoint_at(s: &[u8], at: usize) -> Breakpoint {
+    let r15 = VirtualAddress(word_at(s, at));
+    let armed = byte_at(s, past(s, at, 4)) != 0;
+    Breakpoint { r15, armed }
+}
+
+// As many breakpoints as there is room for.
+fn breakpoints_at(s: &[u8], from: usize) -> [Breakpoint; ROOM] {
+    let mut points = [Breakpoint {
+        r15: VirtualAddress(0),
+        armed: false,
+    }; ROOM];
+    let mut i: usize = 0;
+    while i < ROOM {
+        points[i] = breakpoint_at(s, past(s, from, 5 * i));
+        i += 1;
+    }
+    points
+}
+
+// u32 n, u32 number of breakpoints, and these.
+fn run_to(s: &[u8], at: usize, before: Words, mem: &mut [u8]) -> Checked {
+    let n = word_at(s, at) as u64;
+    let count = word_at(s, past(s, at, 4)) as usize;
+    if ROOM < count {
+        return Checked {
+            what: Difference::Format,
+            words: before,
+            at,
+        };
+    }
+    let from = past(s, at, 8);
+    let points = breakpoints_at(s, from);
+    let reply = listed::run_to(desk_of(before), mem, n, points, count);
+    check_run_to(s, past(s, from, 5 * count), before, reply)
 }
 
 // u32 level.
@@ -152,6 +193,7 @@ fn check_call(s: &[u8], at: usize, before: Words, mem: &mut [u8]) -> Checked {
         3 => fresh(s, body, before, mem),
         4 => load_list(s, body, before, mem),
         5 => load_both(s, body, before, mem),
+        6 => run_to(s, body, before, mem),
         _ => Checked {
             what: Difference::Format,
             words: before,

@@ -12,6 +12,7 @@ fn print_what(what: Difference) {
         Difference::StopNumber => io::write_all(STDOUT_FILENO, b"stop number"),
         Difference::Saved => io::write_all(STDOUT_FILENO, b"saved words"),
         Difference::Count => io::write_all(STDOUT_FILENO, b"count"),
+        Difference::Hold => io::write_all(STDOUT_FILENO, b"hold"),
         Difference::State => io::write_all(STDOUT_FILENO, b"state"),
         Difference::Memory => io::write_all(STDOUT_FILENO, b"memory"),
         Difference::Scratch => io::write_all(STDOUT_FILENO, b"scratch"),

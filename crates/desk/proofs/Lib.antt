@@ -1,1 +1,3 @@
 pub mod Refused
+pub mod Unwatched
+pub mod Composed

@@ -1,8 +1,11 @@
-// The MI desk: make a fresh one, step it, run it, request an interrupt level. Every call answers
-// every input.
+// The MI desk: make a fresh one, step it, run it, run it with breakpoints, request an interrupt
+// level. Every call answers every input.
 ghost use mathlib.Core.Path.{_≡_};
 ghost use lib.ListN.{length};
+ghost use Rattle.breakpoints.specs.RunTo.{runToOf};
 ghost use Rattle.machine.specs.Calls.{freshOf, requestOf, runOf, stepOf};
+use breakpoints::Breakpoint;
+use breakpoints::RunToReply;
 use machine::Answer;
 use machine::Desk;
 use machine::RealAddress;
@@ -41,7 +44,8 @@ pub fn step(d: Desk, mem: &mut [u8]) -> StepReply
             desk: d,
         },
         Answer::Accepted => {
-            let p = runs::steps(d, mem, 1);
+            let none = [0u32; 0];
+            let p = runs::steps(d, mem, 1, &none, 0);
             let answer = p.last;
             let desk = p.desk;
             StepReply { answer, desk }
@@ -61,7 +65,8 @@ pub fn run(d: Desk, mem: &mut [u8], n: u64) -> RunReply
             desk: d,
         },
         Answer::Accepted => {
-            let p = runs::steps(d, mem, n);
+            let none = [0u32; 0];
+            let p = runs::steps(d, mem, n, &none, 0);
             let desk = p.desk;
             RunReply {
                 answer: Answer::Accepted,
@@ -70,6 +75,20 @@ pub fn run(d: Desk, mem: &mut [u8], n: u64) -> RunReply
             }
         }
     }
+}
+
+// At most n steps, up to a stop or a breakpoint. The list is lent as it is: its armed addresses are
+// gathered for the run; afterwards it is searched at the R15 that is left, and a run that was held gets
+// that place.
+pub fn run_to(d: Desk, mem: &mut [u8], n: u64, points: &[Breakpoint]) -> RunToReply
+    ensures { λ r. ⌜ record { reply = r; memory = now (mem .exit) }
+        ≡ runToOf (now (points .entry)) n d (now (mem .entry)) ⌝ }
+{
+    let a = breakpoints::gather(points);
+    let r = armed::run_armed(d, mem, n, a);
+    let r15 = breakpoints::r15_after(r);
+    let f = breakpoints::first_armed(points, r15);
+    breakpoints::placed(r, f)
 }
 
 // An interrupt level is requested: any number may be given, 1 to 15 are levels.

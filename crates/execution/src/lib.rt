@@ -1,8 +1,12 @@
-// Commands one after another, as long as they end quietly: each by the quick way, or from its start
-// by the general one. The sixteen registers are passed by value and returned.
+// Commands one after another, as long as they end quietly and reach no watched address: each by the
+// quick way, or from its start by the general one. The sixteen registers are passed by value and
+// returned.
 ghost use mathlib.Core.Path.{_≡_};
+ghost use lib.ListN.{length};
+ghost use Prim.Native.Nat.{_%_};
 ghost use Rattle.execution.specs.Rows.{Rowed};
 ghost use Rattle.lookup.specs.Answers.{Fits};
+ghost use Rattle.watch.specs.Addresses.{Covers};
 use machine::Map;
 use quick::Quick;
 use results::Out;
@@ -18,11 +22,36 @@ pub struct Ended {
     pub out: Out,
 }
 
-// The commands from R15 on, at most n, up to the first that does not end quietly.
-pub fn exec(mem: &mut [u8], registers: [u32; 16], status: u32, map: Map, n: u64) -> Ended
+// After the last command that ended quietly, and before the next.
+fn paused(registers: [u32; 16], status: u32, count: u64) -> Ended
+    ensures { λ r. ⌜ r ≡ record
+        { registers = registers; status = status; count = count; work = registers; out = Out.Done status } ⌝ }
+{
+    Ended {
+        registers,
+        status,
+        count,
+        work: registers,
+        out: Out::Done(status),
+    }
+}
+
+// The commands from R15 on, at most n, up to the first that does not end quietly, or before a later
+// one at a watched address; the filter lets those addresses pass.
+pub fn exec(
+    mem: &mut [u8],
+    registers: [u32; 16],
+    status: u32,
+    map: Map,
+    n: u64,
+    watched: &[u32],
+    filter: u64,
+) -> Ended
     requires { ⌜ Fits map (now mem) ⌝ }
-    ensures { λ r. ⌜ Rowed n status map registers (now (mem .entry)) (r .registers) (r .status) (r .count) (r .work)
-        (now (mem .exit)) (r .out) ⌝ }
+    requires { ⌜ Covers filter (now watched) ⌝ }
+    requires { ⌜ length (now watched) % 16 ≡ 0 ⌝ }
+    ensures { λ r. ⌜ Rowed (now (watched .entry)) n status map registers (now (mem .entry)) (r .registers) (r .status)
+        (r .count) (r .work) (now (mem .exit)) (r .out) ⌝ }
 {
     let table = rules::table();
     let mut regs = registers;
@@ -34,6 +63,11 @@ pub fn exec(mem: &mut [u8], registers: [u32; 16], status: u32, map: Map, n: u64)
             Quick::Done(s) => {
                 now = s;
                 count += 1;
+                if filter != 0 {
+                    if watch::met(watched, filter, regs[15]) {
+                        return paused(regs, now, count);
+                    }
+                }
                 continue;
             }
             Quick::Unsure => {}
@@ -44,6 +78,11 @@ pub fn exec(mem: &mut [u8], registers: [u32; 16], status: u32, map: Map, n: u64)
             Out::Done(s) => {
                 now = s;
                 count += 1;
+                if filter != 0 {
+                    if watch::met(watched, filter, regs[15]) {
+                        return paused(regs, now, count);
+                    }
+                }
             }
             Out::Alarm(a, k) => {
                 return Ended {
@@ -65,11 +104,5 @@ pub fn exec(mem: &mut [u8], registers: [u32; 16], status: u32, map: Map, n: u64)
             }
         }
     }
-    Ended {
-        registers: regs,
-        status: now,
-        count,
-        work: regs,
-        out: Out::Done(now),
-    }
+    paused(regs, now, count)
 }

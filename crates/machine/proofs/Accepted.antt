@@ -235,7 +235,7 @@ module _ (d : Desk) (m : Memory) (p : Passes d (length m)) where
 
   -- ---- Runs
 
-  passed-step : stepOutcome d m ≡ oneStep d m
+  pub passed-step : stepOutcome d m ≡ oneStep d m
   unfolding stepOutcome unlessRefused
   passed-step = rw (accepted d (length m) p)
 

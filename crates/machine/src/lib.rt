@@ -13,7 +13,9 @@ pub const CONTROL_BLOCK_BYTES: u64 = 80;
 // "Virtual address, real address and frame number are three kinds, and the code must not accept one
 // in place of another."
 
-// An address that a command names: real in kernel mode, looked up in the map in user mode.
+// An address that a command names: real in kernel mode, looked up in the map in user mode. Laid out as
+// in C, since a breakpoint has one.
+#[repr(C)]
 pub struct VirtualAddress(pub u32);
 
 // The place of a byte in memory.

@@ -5,5 +5,8 @@ pub mod Room
 pub mod OperandRoom
 pub mod CommandRoom
 pub mod StepRoom
--- a run is steps
+-- a run is steps, and one with breakpoints is a run
 pub mod Runs
+pub mod RunsTo
+-- what a run with breakpoints is made of
+pub mod Composed

@@ -1,5 +1,5 @@
 -- The calls on numbers and bytes: unpack the state, make the call of `machine`, pack what it leaves.
--- A load is the call of `load`, of two lists that of `joint`.
+-- A run with breakpoints is the call of `breakpoints`, a load that of `load`, of two lists that of `joint`.
 use Prim.Native.Nat.{ℕ, _+_, _*_}
 use mathlib.Core.List.{List}
 use Rattle.machine.specs.declared.StepAnswer.{StepAnswer}
@@ -8,6 +8,10 @@ use Rattle.machine.specs.declared.Reply.{Reply}
 use Rattle.machine.specs.Words.{Memory}
 use Rattle.machine.specs.Calls.{answerNumber, freshOf, stepAnswerNumber, Stepped, stepOf, requestOf, Ran, runOf}
 use Rattle.layout.specs.Layout.{packed, unpacked}
+use Rattle.breakpoints.specs.declared.Breakpoint.{Breakpoint}
+use Rattle.breakpoints.specs.declared.RunToAnswer.{RunToAnswer}
+use Rattle.breakpoints.specs.declared.RunToAnswer.the-variants.{Refused, Ended, Held}
+use Rattle.breakpoints.specs.RunTo.{runToAnswerNumber, RanTo, runToOf}
 use Rattle.lists.specs.Refusals.{deskPieces, loadAnswerNumber}
 use Rattle.load.specs.Loading.{Loaded, loadOf}
 use Rattle.joint.specs.Joint.{jointAnswerNumber, LoadedBoth, jointOf}
@@ -78,6 +82,30 @@ runLeft r =
 unfoldable pub runCall : ℕ → List ℕ → Memory → RunLeft
 runCall n state m = runLeft (runOf n (unpacked state) m)
 
+-- A run with breakpoints answers with a kind, times 2^32, and the number of its answer, and beside it the steps
+-- that it made
+
+-- which case the answer is; 2 and 3 are kinds of a step
+abbrev pub runToKind : RunToAnswer → ℕ
+runToKind Ended = 0
+runToKind (Refused k) = 1
+runToKind (Held place) = 4
+
+unfoldable pub runToCode : RunToAnswer → ℕ
+runToCode a = kindTimes (runToKind a) + runToAnswerNumber a
+
+unfoldable pub runToLeft : RanTo → RunLeft
+runToLeft r =
+    record {
+      answer = runToCode (r .reply .answer);
+      steps = r .reply .steps;
+      state = packed (r .reply .desk);
+      memory = r .memory;
+    }
+
+unfoldable pub runToCall : List Breakpoint → ℕ → List ℕ → Memory → RunLeft
+runToCall ps n state m = runToLeft (runToOf ps n (unpacked state) m)
+
 -- A load answers with the number of its refusal, 0 where it was carried out; it asks for no state
 
 pub record LoadLeft : Type 0 where
@@ -103,10 +131,10 @@ loadBothLeft r = record { answer = jointAnswerNumber (r .answer); memory = r .me
 unfoldable pub loadBothCall : Memory → List ℕ → List ℕ → List ℕ → LoadBothLeft
 loadBothCall m first second s = loadBothLeft (jointOf m first second s)
 
--- The version, 3.0.1, as one number
+-- The version, 3.1.0, as one number
 
 abbrev pub versionOf : ℕ → ℕ → ℕ → ℕ
 versionOf major minor patch = major * 65536 + minor * 256 + patch
 
 unfoldable pub version : ℕ
-version = versionOf 3 0 1
+version = versionOf 3 1 0

@@ -4,3 +4,5 @@
 pub mod Exports
 -- a run on bytes is as many steps on bytes
 pub mod Runs
+-- not for callers: a run with breakpoints whose place is not yet found
+pub mod Unplaced

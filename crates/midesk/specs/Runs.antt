@@ -1,5 +1,6 @@
 -- A run on bytes is steps on bytes: what `midesk_run` leaves is what as many calls of `midesk_step`
--- leave, one after another, each on the bytes that the one before left. Statements only.
+-- leave, one after another, each on the bytes that the one before left; and what `midesk_run_to` leaves
+-- is what `midesk_run` leaves of as many steps. Statements only.
 use Prim.Native.Nat.{ℕ, zero, suc, _+_, _<_, _≤_}
 use mathlib.Core.Path.{_≡_}
 use mathlib.Core.Logic.{_≢_}
@@ -11,7 +12,8 @@ use Rattle.machine.specs.Words.{Memory, byteAt}
 use Rattle.machine.specs.State.{isRunning}
 use Rattle.machine.specs.Calls.{refusalNumber}
 use Rattle.layout.specs.Layout.{stateBytes, unpacked}
-use Rattle.midesk.specs.Exports.{kindTimes, stepCall, runCall}
+use Rattle.breakpoints.specs.declared.Breakpoint.{Breakpoint}
+use Rattle.midesk.specs.Exports.{kindTimes, stepCall, runCall, runToCall}
 
 -- what some calls of `midesk_step` leave
 pub record Left : Type 0 where
@@ -53,3 +55,12 @@ pub record RunIsSteps (n : ℕ) (b : List ℕ) (m : Memory) : Type 0 where
 
 abbrev pub RunsAreSteps : Type 0
 RunsAreSteps = (n : ℕ) (b : List ℕ) (m : Memory) → length b ≡ stateBytes → AllBytes b → AllBytes m → RunIsSteps n b m
+
+-- a run of at most n steps with breakpoints, refused or not
+pub record RunToIsRun (ps : List Breakpoint) (n : ℕ) (b : List ℕ) (m : Memory) : Type 0 where
+  pub steps : (runCall ((runToCall ps n b m) .steps) b m) .steps ≡ (runToCall ps n b m) .steps
+  pub state : (runCall ((runToCall ps n b m) .steps) b m) .state ≡ (runToCall ps n b m) .state
+  pub memory : (runCall ((runToCall ps n b m) .steps) b m) .memory ≡ (runToCall ps n b m) .memory
+
+abbrev pub RunsToAreRuns : Type 0
+RunsToAreRuns = (ps : List Breakpoint) (n : ℕ) (b : List ℕ) (m : Memory) → RunToIsRun ps n b m

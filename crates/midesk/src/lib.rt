@@ -1,10 +1,17 @@
-// The calls for programs in C and Rust: the state as bytes; memory, load lists and scratch as lent
-// slices. Any bytes may be handed in as any of them; every call answers. Beside them the version of the
-// archive.
+// The calls for programs in C and Rust: the state as bytes; memory, load lists, scratch and breakpoints
+// as lent slices. Any bytes may be handed in as any of them, any numbers and switches as breakpoints;
+// every call answers. Beside them the version of the archive.
 ghost use mathlib.Core.Path.{_≡_};
 ghost use lib.ListN.{length};
-ghost use Rattle.midesk.specs.Exports.{freshCall, loadBothCall, loadCall, requestCall, runCall, stepCall};
+ghost use Prim.Native.Nat.{_≤_};
+ghost use Rattle.midesk.specs.Exports.{freshCall, loadBothCall, loadCall, requestCall, runCall, runToCall, stepCall};
 ghost use Rattle.midesk.specs.Exports.{stepCode, version};
+ghost use Rattle.midesk.specs.Unplaced.{codeBy, heldCode, runBytesOf};
+use breakpoints::Armed;
+use breakpoints::Breakpoint;
+use breakpoints::Found;
+use breakpoints::MOST;
+use breakpoints::RunToAnswer;
 use layout::STATE_BYTES;
 use machine::RealAddress;
 use machine::StepAnswer;
@@ -80,6 +87,82 @@ pub extern "C" fn midesk_run(
     a.number()
 }
 
+// A run with breakpoints whose place is not yet found: what it came to, and R15 there.
+pub struct Unplaced {
+    pub answer: RunToAnswer,
+    pub r15: u32,
+}
+
+// A run with the addresses of the armed breakpoints.
+fn run_bytes(
+    mem: &mut [u8],
+    state: &mut [u8; STATE_BYTES],
+    n: u64,
+    a: Armed,
+    steps: &mut u64,
+) -> Unplaced
+    requires { ⌜ (a .length ≤ 64 → a .count ≤ 64) ⌝ }
+    ensures { λ r. ⌜ record
+        { unplaced = r; steps = now (steps .exit); state = now (state .exit); memory = now (mem .exit) }
+        ≡ runBytesOf a n (now (state .entry)) (now (mem .entry)) ⌝ }
+{
+    let r = armed::run_armed(layout::unpack(*state), mem, n, a);
+    let d = r.desk;
+    *state = layout::pack(d);
+    *steps = r.steps;
+    let answer = r.answer;
+    let r15 = breakpoints::r15_after(r);
+    Unplaced { answer, r15 }
+}
+
+// A hold's kind times 2^32, and its place.
+fn held_code(f: Found) -> u64
+    ensures { λ r. ⌜ r ≡ heldCode f ⌝ }
+{
+    match f {
+        Found::At(place) => {
+            if place < MOST {
+                return 0x4_0000_0000 + place as u64;
+            }
+            0
+        }
+        Found::Nowhere => 0,
+    }
+}
+
+// What a run with breakpoints came to: its kind times 2^32, and its number.
+fn run_to_code(u: Unplaced, f: Found) -> u64
+    ensures { λ r. ⌜ r ≡ codeBy (u .answer) f ⌝ }
+{
+    let answer = u.answer;
+    match answer {
+        RunToAnswer::Refused(k) => 0x1_0000_0000 + k.number() as u64,
+        RunToAnswer::Ended => 0,
+        RunToAnswer::Held(_) => held_code(f),
+    }
+}
+
+// At most n steps, up to a stop or a breakpoint of the list; how many it made goes into steps. Answers
+// what it came to: its kind times 2^32, and its number.
+#[no_mangle]
+pub extern "C" fn midesk_run_to(
+    mem: &mut [u8],
+    state: &mut [u8; STATE_BYTES],
+    n: u64,
+    points: &[Breakpoint],
+    steps: &mut u64,
+) -> u64
+    ensures { λ r. ⌜ record
+        { answer = r; steps = now (steps .exit); state = now (state .exit); memory = now (mem .exit) }
+        ≡ runToCall (now (points .entry)) n (now (state .entry)) (now (mem .entry)) ⌝ }
+{
+    let a = breakpoints::gather(points);
+    let u = run_bytes(mem, state, n, a, steps);
+    let r15 = u.r15;
+    let f = breakpoints::first_armed(points, r15);
+    run_to_code(u, f)
+}
+
 // An interrupt level is requested. Answers the number of the refusal, or 0.
 #[no_mangle]
 pub extern "C" fn midesk_request(state: &mut [u8; STATE_BYTES], level: u32) -> u32
@@ -123,5 +206,5 @@ pub extern "C" fn midesk_load_both(
 pub extern "C" fn midesk_version() -> u32
     ensures { λ r. ⌜ r ≡ version ⌝ }
 {
-    0x03_00_01
+    0x03_01_00
 }

@@ -2,7 +2,7 @@
 
 use std::fmt;
 
-/// Why a call was refused, numbers 1 to 7, 17 to 19, 22 and 23 of the manual (`docs/MACHINE.md`). A refused call has
+/// Why a call was refused, numbers 1 to 7, 17 to 20, 22 and 23 of the manual (`docs/MACHINE.md`). A refused call has
 /// changed nothing, but for one thing: after [`Refusal::Clash`] the scratch is all zeros.
 ///
 /// A later version may have more of them, so a `match` needs an arm for the others.
@@ -31,6 +31,8 @@ pub enum Refusal {
     Pieces = 18,
     /// A list puts a byte outside memory.
     Outside = 19,
+    /// A run has more than 64 breakpoints.
+    Breakpoints = 20,
     /// The scratch is shorter than the memory.
     Scratch = 22,
     /// Two lists put a byte at one address, and their last bytes there differ. The scratch is all zeros.
@@ -43,12 +45,12 @@ impl Refusal {
         self as u32
     }
 
-    /// The refusal of this number, if there is one: 1 to 7, 17 to 19, 22 and 23 have one.
+    /// The refusal of this number, if there is one: 1 to 7, 17 to 20, 22 and 23 have one.
     pub fn of(number: u32) -> Option<Refusal> {
         use Refusal::*;
-        [Length, SystemBlock, ControlBlock, Map, Status, Level, Stopped, Malformed, Pieces, Outside, Scratch, Clash]
-            .into_iter()
-            .find(|r| r.number() == number)
+        let of_desks = [Length, SystemBlock, ControlBlock, Map, Status, Level, Stopped, Breakpoints];
+        let of_lists = [Malformed, Pieces, Outside, Scratch, Clash];
+        of_desks.into_iter().chain(of_lists).find(|r| r.number() == number)
     }
 }
 
@@ -65,6 +67,7 @@ impl fmt::Display for Refusal {
             Refusal::Malformed => "the list has an unknown command, is cut short, or has bytes after its end",
             Refusal::Pieces => "the list has more than 4,096 pieces",
             Refusal::Outside => "the list puts a byte outside memory",
+            Refusal::Breakpoints => "the run has more than 64 breakpoints",
             Refusal::Scratch => "the scratch is shorter than the memory",
             Refusal::Clash => "the two lists put unequal last bytes at one address",
         })
@@ -87,6 +90,23 @@ pub enum Event {
     /// The desk has stopped with this number: 0 HALT; 8, 12 to 15 an alarm in kernel mode; 16 no valid entry of the
     /// system block.
     Stopped(u32),
+}
+
+/// How a run with breakpoints ended.
+///
+/// A later version may tell more apart, so a `match` needs an arm for the others.
+#[derive(Clone, Copy, PartialEq, Eq, Hash, Debug)]
+#[non_exhaustive]
+pub enum RunEnd {
+    /// As a run without breakpoints ends: all steps are made, or the desk has stopped. [`Desk::mark`] tells which.
+    ///
+    /// [`Desk::mark`]: crate::Desk::mark
+    Ended,
+    /// Before the command at R15, which has not run.
+    Held {
+        /// The place in the list, from 0, of the first armed breakpoint there. Those before it count, armed or not.
+        place: usize,
+    },
 }
 
 /// Whether a desk runs.
@@ -118,7 +138,7 @@ impl Mark {
     }
 }
 
-/// The answer of every call but `step`.
+/// The answer of every call but `step` and `run_to`.
 pub(crate) fn refused(answer: u32) -> Result<(), Refusal> {
     match answer {
         0 => Ok(()),
@@ -135,6 +155,17 @@ pub(crate) fn stepped(answer: u64) -> Result<Event, Refusal> {
         2 => Ok(Event::Entered(number)),
         3 => Ok(Event::Stopped(number)),
         kind => panic!("libmidesk.a does not fit this crate: a step of kind {kind}"),
+    }
+}
+
+/// The answer of `run_to`.
+pub(crate) fn ended(answer: u64) -> Result<RunEnd, Refusal> {
+    let number = answer as u32;
+    match answer >> 32 {
+        0 => Ok(RunEnd::Ended),
+        1 => Err(refusal(number)),
+        4 => Ok(RunEnd::Held { place: number as usize }),
+        kind => panic!("libmidesk.a does not fit this crate: a run of kind {kind}"),
     }
 }
 

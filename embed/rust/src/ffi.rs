@@ -1,16 +1,27 @@
 //! The calls of libmidesk.a: the only unsafe code of this crate.
 //!
-//! The archive asks of its caller that the pointers lead to as many bytes as said, readable and (except for `fresh`'s
-//! memory and all lists) writable, that they do not overlap (two lists may), and that nobody else uses them during the
-//! call. References give all of it. Every content of the bytes and every number is answered.
+//! The archive asks of its caller that the pointers lead to as many bytes or breakpoints as said, readable and (except
+//! for `fresh`'s memory, all lists and breakpoints) writable, that they do not overlap (two lists may), and that nobody
+//! else uses them during the call. References give all of it. Every content of the bytes and every number is answered.
 
-use crate::STATE_BYTES;
+use crate::{Breakpoint, STATE_BYTES};
 
 mod c {
+    use crate::Breakpoint;
+
     extern "C" {
         pub fn midesk_fresh(mem: *const u8, len: usize, system: u32, control: u32, start: u32, state: *mut u8) -> u32;
         pub fn midesk_step(mem: *mut u8, len: usize, state: *mut u8) -> u64;
         pub fn midesk_run(mem: *mut u8, len: usize, state: *mut u8, n: u64, steps: *mut u64) -> u32;
+        pub fn midesk_run_to(
+            mem: *mut u8,
+            len: usize,
+            state: *mut u8,
+            n: u64,
+            points: *const Breakpoint,
+            count: usize,
+            steps: *mut u64,
+        ) -> u64;
         pub fn midesk_request(state: *mut u8, level: u32) -> u32;
         pub fn midesk_load(mem: *mut u8, len: usize, list: *const u8, list_len: usize) -> u32;
         pub fn midesk_load_both(
@@ -46,6 +57,19 @@ pub fn run(mem: &mut [u8], state: &mut [u8; STATE_BYTES], n: u64) -> (u32, u64) 
     let mut steps = 0;
     // SAFETY: as for `step`; `steps` is a variable of its own, eight bytes that may be written.
     let answer = unsafe { c::midesk_run(mem.as_mut_ptr(), mem.len(), state.as_mut_ptr(), n, &mut steps) };
+    (answer, steps)
+}
+
+/// Kind × 2^32 + number; and the steps made.
+pub fn run_to(mem: &mut [u8], state: &mut [u8; STATE_BYTES], n: u64, points: &[Breakpoint]) -> (u64, u64) {
+    let mut steps = 0;
+    // SAFETY: as for `run`; `points` is `points.len()` breakpoints that may be read, laid out as the header's struct
+    // (`repr(C)`), whose `armed` is 0 or 1. An exclusive and a shared reference do not overlap, and nobody writes
+    // `points` meanwhile. The call only reads them.
+    let answer = unsafe {
+        let (points, count) = (points.as_ptr(), points.len());
+        c::midesk_run_to(mem.as_mut_ptr(), mem.len(), state.as_mut_ptr(), n, points, count, &mut steps)
+    };
     (answer, steps)
 }
 

@@ -2,8 +2,9 @@
 //!
 //! This crate is a thin layer of plain Rust over the proved archive; the layer is tested, not proved.
 //!
-//! A [`Desk`] runs machine code for MI in a memory that is lent to each call. Every memory, state, list, scratch and
-//! number is answered: what cannot be used is refused with a [`Refusal`], and then state and memory are as they were.
+//! A [`Desk`] runs machine code for MI in a memory that is lent to each call. Every memory, state, list, scratch,
+//! breakpoint and number is answered: what cannot be used is refused with a [`Refusal`], and then state and memory are
+//! as they were.
 //!
 //! ```
 //! use midesk::{Desk, Event, Mark};
@@ -22,9 +23,10 @@
 //! # Ok::<(), midesk::Refusal>(())
 //! ```
 //!
-//! [`load`] puts a program into memory that arrives as a load list, in parts with their own addresses; [`load_both`]
-//! loads two lists together. [`numbers`] has the commands of lists, and describes what the desk uses in memory: system
-//! block, control block and map.
+//! [`Desk::run_to`] makes a run that is held before chosen commands, as a debugger does. [`load`] puts a program into
+//! memory that arrives as a load list, in parts with their own addresses; [`load_both`] loads two lists together.
+//! [`numbers`] has the commands of lists, and describes what the desk uses in memory: system block, control block and
+//! map.
 //!
 //! The crate links `libmidesk.a`, which `embed/build` of the repository makes. `docs/MACHINE.md` there is the reference
 //! manual: command bytes, operand forms, blocks, map, numbers.
@@ -32,11 +34,13 @@
 #![deny(unsafe_code)]
 
 mod answers;
+mod breakpoints;
 #[allow(unsafe_code)]
 mod ffi;
 pub mod numbers;
 
-pub use answers::{Event, Mark, Refusal};
+pub use answers::{Event, Mark, Refusal, RunEnd};
+pub use breakpoints::Breakpoint;
 
 use std::fmt;
 
@@ -45,7 +49,7 @@ pub const STATE_BYTES: usize = 90;
 
 /// The version of this crate as one number, 65536 × major + 256 × minor + patch, as the C header has it in
 /// `MIDESK_VERSION`.
-pub const VERSION: u32 = 0x03_00_01;
+pub const VERSION: u32 = 0x03_01_00;
 
 /// The version of the archive `libmidesk.a` that is linked, as one number: [`VERSION`] where crate and archive belong
 /// together.

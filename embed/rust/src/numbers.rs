@@ -1,5 +1,5 @@
 //! Numbers of the manual, `docs/MACHINE.md`: causes of a kernel entry, numbers of a stop, bits of the status word, what
-//! the desk uses in memory, and the commands of a load list.
+//! the desk uses in memory, the commands of a load list, and how many breakpoints there may be.
 //!
 //! # Alarms
 //!
@@ -130,3 +130,6 @@ pub const LIST_FOUR: u8 = 0x03;
 pub const LIST_COPIES: u8 = 0x04;
 /// Load list: the pieces that it may have, its commands 02h, 03h and 04h.
 pub const LIST_PIECES: usize = 4096;
+
+/// Breakpoints that a run may have, armed or not.
+pub const MAX_BREAKPOINTS: usize = 64;

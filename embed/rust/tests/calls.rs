@@ -1,35 +1,10 @@
 //! Each function by itself.
 
+mod common;
+
+use common::{memory, put, spoiled, user, word};
 use midesk::{load, load_both, numbers, Desk, Event, Mark, Refusal, STATE_BYTES};
 use std::borrow::Borrow;
-
-fn put(memory: &mut [u8], at: usize, word: u32) {
-    memory[at..at + 4].copy_from_slice(&word.to_be_bytes());
-}
-
-fn word(memory: &[u8], at: usize) -> u32 {
-    u32::from_be_bytes(memory[at..at + 4].try_into().unwrap())
-}
-
-/// System block at 0, control block at 256, code at 512. Every entry of the system block leads to 768 in kernel mode.
-fn memory(code: &[u8]) -> Vec<u8> {
-    let mut memory = vec![0; 1024];
-    for cause in 0..32 {
-        put(&mut memory, numbers::system_pc(cause), 768);
-        put(&mut memory, numbers::system_status(cause), numbers::KERNEL);
-    }
-    memory[512..512 + code.len()].copy_from_slice(code);
-    memory
-}
-
-/// A desk in user mode at address 0, whose page 0 is frame 1.
-fn user(memory: &mut [u8]) -> Desk {
-    let mut desk = Desk::fresh(memory, 0, 256, 0).unwrap();
-    put(memory, 336, numbers::MAP_PRESENT | numbers::MAP_WRITABLE | 1);
-    desk.set_status(0);
-    desk.set_map(336, 1);
-    desk
-}
 
 #[test]
 fn fresh_is_as_the_paper_says() {
@@ -318,22 +293,7 @@ fn request_refuses_5_and_6() {
 
 #[test]
 fn refused_calls_change_nothing() {
-    type Spoil = fn(&mut Desk);
-    let spoils: [(Spoil, Refusal); 6] = [
-        (|desk| desk.set_blocks(2, 256), Refusal::SystemBlock),
-        (|desk| desk.set_blocks(0, 948), Refusal::ControlBlock),
-        (|desk| desk.set_map(1, 0), Refusal::Map),
-        (|desk| desk.set_map(0, 0x4000_0000), Refusal::Map),
-        (|desk| desk.set_pending(3), Refusal::Status),
-        (|desk| desk.set_mark(Mark::Stopped(16)), Refusal::Stopped),
-    ];
-    for (spoil, refusal) in spoils {
-        let mut memory = memory(&[0x14, 2, 0x10, 0, 0, 0, 0]);
-        let mut desk = Desk::fresh(&memory, 0, 256, 512).unwrap();
-        for i in 0..15 {
-            desk.set_register(i, 0x0123_4567 * (i as u32 + 1));
-        }
-        spoil(&mut desk);
+    for (mut desk, mut memory, refusal) in spoiled() {
         let (before, bytes) = (desk.clone(), memory.clone());
         assert_eq!(desk.step(&mut memory), Err(refusal));
         assert_eq!(desk.run(&mut memory, 5), Err(refusal));
@@ -378,14 +338,15 @@ fn bytes_are_as_documented() {
 
 #[test]
 fn refusals_have_their_numbers() {
-    for number in (1..8).chain(17..20).chain(22..24) {
+    for number in (1..8).chain(17..21).chain(22..24) {
         assert_eq!(Refusal::of(number).map(Refusal::number), Some(number));
     }
-    for number in [0, 8, 16, 20, 21, 24, u32::MAX] {
+    for number in [0, 8, 16, 21, 24, u32::MAX] {
         assert_eq!(Refusal::of(number), None);
     }
     assert_eq!(Refusal::Stopped.to_string(), "the desk is stopped");
     assert_eq!(Refusal::Outside.to_string(), "the list puts a byte outside memory");
+    assert_eq!(Refusal::Breakpoints.to_string(), "the run has more than 64 breakpoints");
     assert_eq!(Refusal::Clash.to_string(), "the two lists put unequal last bytes at one address");
 }
 

@@ -21,7 +21,7 @@ fn header(name: &str) -> u64 {
 #[test]
 fn constants_are_the_headers() {
     use numbers::*;
-    let table: [(&str, u64, &str); 33] = [
+    let table: [(&str, u64, &str); 34] = [
         ("SYSTEM_CALL", SYSTEM_CALL.into(), "MIDESK_CAUSE_SYSTEM_CALL"),
         ("ADDRESS", ADDRESS.into(), "MIDESK_ALARM_ADDRESS"),
         ("ABSENT", ABSENT.into(), "MIDESK_ALARM_ABSENT"),
@@ -54,6 +54,7 @@ fn constants_are_the_headers() {
         ("LIST_FOUR", LIST_FOUR.into(), "MIDESK_LIST_FOUR"),
         ("LIST_COPIES", LIST_COPIES.into(), "MIDESK_LIST_COPIES"),
         ("LIST_PIECES", LIST_PIECES as u64, "MIDESK_LIST_PIECES"),
+        ("MAX_BREAKPOINTS", MAX_BREAKPOINTS as u64, "MIDESK_MAX_BREAKPOINTS"),
         ("STATE_BYTES", STATE_BYTES as u64, "MIDESK_STATE_BYTES"),
     ];
     for (name, value, in_header) in table {
@@ -81,6 +82,7 @@ fn refusals_are_the_headers() {
         (Malformed, "MALFORMED"),
         (Pieces, "PIECES"),
         (Outside, "OUTSIDE"),
+        (Breakpoints, "BREAKPOINTS"),
         (Scratch, "SCRATCH"),
         (Clash, "CLASH"),
     ];
@@ -129,7 +131,7 @@ fn user(code: &[u8], entry: u32) -> (Desk, Vec<u8>) {
     let mut memory = vec![0; 2048];
     for cause in 0..32 {
         put(&mut memory, numbers::system_pc(cause), 0x5152_5300 + cause);
-        put(&mut memory, numbers::system_status(cause), numbers::KERNEL | cause % 16);
+        put(&mut memory, numbers::system_status(cause), numbers::KERNEL | (cause % 16));
     }
     put(&mut memory, 336, numbers::MAP_PRESENT | 1);
     put(&mut memory, 340, entry);
@@ -155,7 +157,7 @@ fn levels_above_the_own_are_entered() {
             }
             let cause = numbers::interrupt(level);
             assert_eq!(event, Ok(Event::Entered(cause)));
-            assert_eq!((desk.register(15), desk.status()), (0x5152_5300 + cause, numbers::KERNEL | cause % 16));
+            assert_eq!((desk.register(15), desk.status()), (0x5152_5300 + cause, numbers::KERNEL | (cause % 16)));
             let argument = 256 + numbers::CONTROL_ARGUMENT;
             assert_eq!(memory[argument..argument + 4], level.to_be_bytes());
         }

@@ -1,13 +1,15 @@
 //! The desk against the model, in one process: the generator's cases, random sequences of calls, valid and damaged,
-//! random load lists, and random pairs of lists. MIDESK_SEED, MIDESK_FIRST and MIDESK_COUNT choose other random
-//! sequences: the seed, the first one's index, how many; MIDESK_LISTS_FIRST and MIDESK_LISTS_COUNT other sequences of
-//! lists, 10 lists in each; MIDESK_PAIRS_FIRST and MIDESK_PAIRS_COUNT other sequences of pairs, about 10 in each.
+//! random load lists, random pairs of lists, and random runs to breakpoints. MIDESK_SEED, MIDESK_FIRST and MIDESK_COUNT
+//! choose other random sequences: the seed, the first one's index, how many; MIDESK_LISTS_FIRST and MIDESK_LISTS_COUNT
+//! other sequences of lists, 10 lists in each; with PAIRS for LISTS, of pairs, about 10 in each; with POINTS, of runs to
+//! breakpoints, 10 in each.
 //!
 //! A sequence that differs is named by the command that writes it alone, to be used in `model`.
 
-use midesk::{Desk, Event};
+use midesk::{Breakpoint, Desk, Event, RunEnd};
 use model::pair::{After, Pair};
-use model::sequences::{lists, pairs, random, Act, Sequence};
+use model::sequences::{lists, pairs, points, random, Act, Sequence};
+use model::state;
 
 const BESIDE: usize = 64;
 const FILL: u8 = 0xA5;
@@ -44,6 +46,28 @@ fn step_number(answer: Result<Event, midesk::Refusal>) -> u64 {
         Ok(event) => panic!("an event that the model does not have: {event:?}"),
     };
     kind << 32 | u64::from(number)
+}
+
+fn run_number(answer: Result<RunEnd, midesk::Refusal>) -> u64 {
+    let (kind, number) = match answer {
+        Ok(RunEnd::Ended) => (0, 0),
+        Err(refusal) => (1, u64::from(refusal.number())),
+        Ok(RunEnd::Held { place }) => (4, place as u64),
+        Ok(end) => panic!("an end that the model does not have: {end:?}"),
+    };
+    kind << 32 | number
+}
+
+/// Answer and steps of a run to breakpoints. They are lent between others, which hold the desk where it is; `None`
+/// where one of them has changed.
+fn run_to(desk: &mut Desk, memory: &mut [u8], n: u64, points: &[state::Breakpoint]) -> Option<(u64, u64)> {
+    let beside = [Breakpoint { r15: desk.register(15), armed: true }; 2];
+    let between: Vec<_> = points.iter().map(|point| Breakpoint { r15: point.r15, armed: point.armed }).collect();
+    let all = [&beside, between.as_slice(), &beside].concat();
+    let lent = all.clone();
+    let answer = desk.run_to(memory, n, &lent[beside.len()..][..points.len()]);
+    let steps = answer.map_or(0, |(steps, _)| steps);
+    (lent == all).then_some((run_number(answer.map(|(_, end)| end)), steps))
 }
 
 fn refusal_number<T>(answer: &Result<T, midesk::Refusal>) -> u64 {
@@ -94,6 +118,13 @@ fn replay(sequence: &Sequence) -> Result<(), String> {
                         After::Other => false,
                     };
                 refusal_number(&answer)
+            }
+            Act::RunTo { n, points } => {
+                let ran = run_to(&mut desk, lent.memory(), *n, points);
+                lists_kept = ran.is_some();
+                let (answer, made) = ran.unwrap_or_default();
+                steps = made;
+                answer
             }
             Act::State(bytes) => {
                 desk = Desk::from_bytes(*bytes);
@@ -181,20 +212,27 @@ fn random_loads() {
     replay_all("random loads", &format!("sequences -- {seed} 0"), random::stored().len(), sequences);
 }
 
+/// Replays 2,000 sequences that this program of the model writes.
+fn replay_of(program: &str, sequence: fn(u64, u32) -> Sequence) {
+    let chosen = |what: &str, otherwise| number(&format!("MIDESK_{}_{what}", program.to_uppercase()), otherwise) as u32;
+    let seed = number("MIDESK_SEED", 1);
+    let from = chosen("FIRST", 20000);
+    let to = from + chosen("COUNT", 2000);
+    let sequences = (from..to).map(|index| sequence(seed, index));
+    replay_all(&format!("random {program}"), &format!("{program} -- {seed} {to}"), from as usize, sequences);
+}
+
 #[test]
 fn random_lists() {
-    let seed = number("MIDESK_SEED", 1);
-    let from = number("MIDESK_LISTS_FIRST", 20000) as u32;
-    let to = from + number("MIDESK_LISTS_COUNT", 2000) as u32;
-    let sequences = (from..to).map(|index| lists::sequence(seed, index));
-    replay_all("random lists", &format!("lists -- {seed} {to}"), from as usize, sequences);
+    replay_of("lists", lists::sequence);
 }
 
 #[test]
 fn random_pairs() {
-    let seed = number("MIDESK_SEED", 1);
-    let from = number("MIDESK_PAIRS_FIRST", 20000) as u32;
-    let to = from + number("MIDESK_PAIRS_COUNT", 2000) as u32;
-    let sequences = (from..to).map(|index| pairs::sequence(seed, index));
-    replay_all("random pairs", &format!("pairs -- {seed} {to}"), from as usize, sequences);
+    replay_of("pairs", pairs::sequence);
+}
+
+#[test]
+fn random_points() {
+    replay_of("points", points::sequence);
 }

@@ -61,6 +61,7 @@ fn program(folder: &Path, name: &str, sources: &Sources, faults: &[(Fault, Sourc
         let call = |call| format!("{call}: {fault}::desk::{call}");
         let calls = ["fresh", "step", "run", "request"].map(call).join(", ");
         let calls = format!("{calls}, load: {fault}::load::load, load_both: {fault}::joint::load_both");
+        let calls = format!("{calls}, run_to: {fault}::breakpoints::run_to");
         list += &format!("        (\"{fault}\", model::case::Desk {{ {calls} }}),\n");
     }
     let main = format!("fn main() {{\n    model::faults::play(&[\n{list}    ]);\n}}\n");

@@ -33,8 +33,21 @@ pub type Sources = BTreeMap<String, String>;
 
 /// The modules that make up the desk, and that a copy may have in its own form.
 /// `state` isn't among them: its types are those of the stored cases.
-pub const MODULES: [&str; 12] =
-    ["arith", "checks", "code", "commands", "desk", "entry", "joint", "load", "map", "notes", "operand", "work"];
+pub const MODULES: [&str; 13] = [
+    "arith",
+    "breakpoints",
+    "checks",
+    "code",
+    "commands",
+    "desk",
+    "entry",
+    "joint",
+    "load",
+    "map",
+    "notes",
+    "operand",
+    "work",
+];
 
 /// The model's folder.
 pub fn folder() -> PathBuf {
@@ -51,11 +64,16 @@ pub fn sources() -> Result<Sources, String> {
     MODULES.iter().map(|name| read(name)).collect()
 }
 
-/// All faults, in the order of the files' names.
+/// The number that a file's name begins with.
+fn number(path: &Path) -> Option<u32> {
+    path.file_name()?.to_str()?.split('-').next()?.parse().ok()
+}
+
+/// All faults, in the order of the files' numbers.
 pub fn faults() -> Result<Vec<Fault>, String> {
     let listed = std::fs::read_dir(folder().join("faults")).map_err(|error| format!("faults/: {error}"))?;
     let mut paths: Vec<PathBuf> = listed.filter_map(|entry| Some(entry.ok()?.path())).collect();
-    paths.sort();
+    paths.sort_by_key(|path| (number(path), path.clone()));
     let mut all = Vec::new();
     for path in paths {
         let name = path.file_name().unwrap_or_default().to_string_lossy().into_owned();

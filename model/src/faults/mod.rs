@@ -9,7 +9,7 @@ use crate::store;
 use std::panic::{catch_unwind, set_hook, AssertUnwindSafe};
 use std::path::Path;
 
-/// Steps that a run gets at most: a wrong copy may go on where the model stops.
+/// Steps that a run gets at most: a wrong copy may go on where the model stops or is held.
 const STEPS: u32 = 5_000;
 
 /// How many cases a copy answers wrongly, and in how many of these it panics.
@@ -26,6 +26,7 @@ fn differs(desk: &Desk, case: &Case, expected: &Expected) -> bool {
     for (call, wanted) in case.calls.iter().zip(&expected.outcomes) {
         let outcome = match call {
             Call::Run(n) => desk.make(&Call::Run((*n).min(STEPS)), &state, &mut memory),
+            Call::RunTo(n, points) => desk.make(&Call::RunTo((*n).min(STEPS), points.clone()), &state, &mut memory),
             other => desk.make(other, &state, &mut memory),
         };
         if outcome != *wanted {

@@ -51,6 +51,15 @@ impl Maker {
         }
     }
 
+    /// Begins with a case's memory and start, without its calls.
+    pub fn of_case(rng: Rng, case: &Case) -> Maker {
+        let mut maker = Maker::new(rng, case.image.len());
+        maker.ramps = case.ramps.clone();
+        maker.take(&case.image, case.start);
+        maker.start = case.start;
+        maker
+    }
+
     pub fn length(&self) -> u32 {
         self.memory.len() as u32
     }

@@ -3,6 +3,7 @@
 pub mod alarms;
 pub mod any_list;
 pub mod any_pair;
+pub mod any_points;
 pub mod data_pages;
 pub mod entries;
 pub mod fetches;
@@ -18,6 +19,11 @@ pub mod pair_refusals;
 pub mod pairs;
 pub mod pick;
 pub mod places;
+pub mod point_levels;
+pub mod point_programs;
+pub mod point_refusals;
+pub mod point_walks;
+pub mod points;
 pub mod refusals;
 pub mod resumes;
 pub mod rules;
@@ -94,5 +100,11 @@ pub fn all() -> Vec<(&'static str, Vec<Case>)> {
         ("both mixed", pairs::mixed()),
         ("fetches", fetches::fetches()),
         ("data pages", data_pages::data_pages()),
+        ("points lists", points::lists()),
+        ("points numbers", points::numbers()),
+        ("points levels", point_levels::levels()),
+        ("points stops", point_levels::stops()),
+        ("points refused", point_refusals::refusals()),
+        ("points walks", point_walks::walks()),
     ]
 }

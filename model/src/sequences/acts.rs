@@ -4,6 +4,7 @@
 use super::session::Session;
 use super::*;
 use crate::code::decode;
+use crate::gen::any_points::{ahead, any_points, any_steps};
 use crate::gen::known_bytes;
 use crate::gen::refusals::{any_level, spoil};
 use crate::rng::Rng;
@@ -67,15 +68,24 @@ pub fn damage(rng: &mut Rng, good: &State, length: u32) -> StateBytes {
 
 /// Any call, with any numbers.
 pub fn any_call(session: &mut Session, rng: &mut Rng) {
-    match rng.below(12) {
+    match rng.below(16) {
         0..=4 => session.call(Act::Step),
         5..=7 => {
             let n = count(rng);
             session.run(n, MOST);
         }
         8..=10 => session.call(Act::Request(any_level(rng))),
-        _ => any_fresh(session, rng),
+        11 => any_fresh(session, rng),
+        _ => any_run_to(session, rng),
     }
+}
+
+/// A run to any breakpoints.
+pub fn any_run_to(session: &mut Session, rng: &mut Rng) {
+    let ahead = ahead(&session.state, &session.memory, 24);
+    let points = any_points(rng, &ahead, true);
+    let n = if rng.chance(25) { count(rng) } else { u64::from(any_steps(rng, &ahead, &points)) };
+    session.run_to(n, MOST, points);
 }
 
 /// A block's address: mostly one that is allowed, often at a limit.
@@ -150,14 +160,19 @@ pub fn scribble(session: &mut Session, rng: &mut Rng, known: &[u8]) {
     session.put_memory(&memory);
 }
 
-/// The caller makes a stopped desk go on: elsewhere, in another mode, with
-/// the same command again, or freshly made.
+/// The caller makes a stopped desk go on, or makes a fresh one.
 pub fn go_on(session: &mut Session, rng: &mut Rng) {
-    let length = session.memory.len() as u32;
     if rng.chance(20) {
         any_fresh(session, rng);
-        return;
+    } else {
+        revive(session, rng);
     }
+}
+
+/// The caller makes a stopped desk go on: elsewhere, in another mode, or with
+/// the same command again.
+pub fn revive(session: &mut Session, rng: &mut Rng) {
+    let length = session.memory.len() as u32;
     let choice = rng.below(5);
     let word = rng.word();
     let near = rng.below(14);
@@ -176,22 +191,27 @@ pub fn go_on(session: &mut Session, rng: &mut Rng) {
 
 /// Some calls with a damaged state or a wrong length, then back.
 pub fn detour(session: &mut Session, rng: &mut Rng) {
+    aside(session, rng, |session, rng| {
+        for _ in 0..1 + rng.below(3) {
+            any_call(session, rng);
+        }
+    });
+}
+
+/// What `calls` makes is made with a damaged state or a wrong length, then back.
+pub fn aside(session: &mut Session, rng: &mut Rng, calls: impl FnOnce(&mut Session, &mut Rng)) {
     let good = session.state;
     let length = session.memory.len();
     if rng.chance(25) {
         let memory = session.memory.clone();
         let other = if rng.chance(70) { bad_length(rng) } else { 512 * (1 + rng.below(12)) };
         session.put_length(other);
-        for _ in 0..1 + rng.below(3) {
-            any_call(session, rng);
-        }
+        calls(session, rng);
         session.put_length(length as u32);
         session.put_memory(&memory);
     } else {
         session.put_state(damage(rng, &good, length as u32));
-        for _ in 0..1 + rng.below(3) {
-            any_call(session, rng);
-        }
+        calls(session, rng);
     }
     session.put_state(packed(&good));
 }

@@ -9,6 +9,7 @@
 pub mod acts;
 pub mod lists;
 pub mod pairs;
+pub mod points;
 pub mod program;
 pub mod random;
 pub mod session;
@@ -77,6 +78,23 @@ pub enum Act {
     Load(Vec<u8>),
     /// Loads two lists together into the memory, with a scratch of its own.
     LoadBoth(Pair),
+    /// A run to breakpoints.
+    RunTo {
+        n: u64,
+        points: Vec<Breakpoint>,
+    },
+}
+
+impl Act {
+    /// What the caller itself does to memory and state; nothing for a call.
+    pub fn done(&self, memory: &mut Vec<u8>, state: &mut StateBytes) {
+        match self {
+            Act::State(bytes) => *state = *bytes,
+            Act::Memory { at, bytes } => memory[*at as usize..][..bytes.len()].copy_from_slice(bytes),
+            Act::Length(length) => memory.resize(*length as usize, 0),
+            _ => {}
+        }
+    }
 }
 
 /// Bytes of the memory that a call changed.
@@ -86,10 +104,11 @@ pub struct Change {
     pub bytes: Vec<u8>,
 }
 
-/// What a call answered and left. For a step the answer is kind × 2^32 +
-/// number (kind 0 done, 1 refused, 2 kernel entry, 3 stop), for the others
-/// the number of the refusal or 0; `steps` is a run's count, 0 for the others;
-/// `scratch` is joint loading's, `AsBefore` for the others.
+/// What a call answered and left. For a step and a run to breakpoints the
+/// answer is kind × 2^32 + number (kind 0 done, 1 refused, 2 kernel entry, 3
+/// stop, 4 held), for the others the number of the refusal or 0; `steps` is a
+/// run's count, 0 for the others; `scratch` is joint loading's, `AsBefore` for
+/// the others.
 #[derive(Clone, PartialEq, Eq, Debug)]
 pub struct Left {
     pub answer: u64,

@@ -151,6 +151,11 @@ fn programs(rng: &mut Rng) -> Sequence {
             }
             11 => scribble(&mut session, rng, &bytes),
             12 => detour(&mut session, rng),
+            13..=22 => {
+                let n = u64::from(2 + rng.below(10));
+                lay(&mut session, &mut desk, &bytes, n);
+                any_run_to(&mut session, rng);
+            }
             _ => {
                 lay(&mut session, &mut desk, &bytes, 1);
                 session.call(Act::Step);
@@ -250,11 +255,13 @@ fn large(rng: &mut Rng) -> Sequence {
         } else {
             session.put_memory(&memory);
         }
-        if rng.chance(70) {
-            session.call(Act::Step);
-        } else {
-            let n = u64::from(rng.below(6));
-            session.run(n, MOST);
+        match rng.below(10) {
+            0..=5 => session.call(Act::Step),
+            6 | 7 => any_run_to(&mut session, rng),
+            _ => {
+                let n = u64::from(rng.below(6));
+                session.run(n, MOST);
+            }
         }
     }
     session.finish()

@@ -1,9 +1,11 @@
 //! Plays a sequence on the model while it is made, and keeps it.
 
 use super::*;
+use crate::breakpoints::run_to;
 use crate::case::{Call, Case};
 use crate::checks;
 use crate::desk;
+use crate::gen::any_points::bounded;
 use crate::joint;
 use crate::load;
 
@@ -73,6 +75,15 @@ impl Session {
                 scratch = after;
                 (u64::from(answer), 0, self.state)
             }
+            Act::RunTo { n, ref points } => {
+                let answer = run_to(&self.state, &mut self.memory, n, points);
+                let (kind, number) = match (answer.refusal, answer.held) {
+                    (0, None) => (0, 0),
+                    (0, Some(place)) => (4, place),
+                    (refusal, _) => (1, refusal),
+                };
+                (kind << 32 | u64::from(number), answer.count, answer.state)
+            }
             _ => panic!("no call"),
         };
         let changes = changes(&before, &self.memory);
@@ -87,6 +98,12 @@ impl Session {
         let tried = desk::run(&self.state, &mut memory, n.min(most));
         let goes_on = tried.refusal == 0 && !tried.state.stopped();
         self.call(Act::Run(if goes_on { n.min(most) } else { n }));
+    }
+
+    /// A run to breakpoints of n steps, or of at most `most` where nothing would end it earlier.
+    pub fn run_to(&mut self, n: u64, most: u64, points: Vec<Breakpoint>) {
+        let n = bounded(&self.state, &self.memory, n, most, &points);
+        self.call(Act::RunTo { n, points });
     }
 
     pub fn put_state(&mut self, bytes: StateBytes) {
@@ -127,6 +144,7 @@ impl Session {
                 }
                 Call::Load(list) => Act::Load(list.clone()),
                 Call::LoadBoth(pair) => Act::LoadBoth(pair.clone()),
+                Call::RunTo(n, points) => Act::RunTo { n: u64::from(*n), points: points.clone() },
             });
         }
         session

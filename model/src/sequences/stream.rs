@@ -27,7 +27,10 @@
 //!                 byte i is (first + i × add) modulo 256; then u32 answer; then u8 scratch
 //!                 afterwards: 0 as before the call, 1 all zeros (where it was all zeros before,
 //!                 or has no bytes, 1 if the answer is 0 or 23, else 0)
-//!   after 0 to 3, 7 and 8: 90 bytes of state, and the changes of the memory by the call
+//!     9 run to    u64 n, u32 number of breakpoints (at most 70), for each u32 R15 value, u8 armed (0
+//!                 or 1); then u64 answer (kind × 2^32 + number: kind 0 ended, number 0; 1 refused,
+//!                 number of the refusal; 4 held, place of the breakpoint from 0), u64 steps made
+//!   after 0 to 3 and 7 to 9: 90 bytes of state, and the changes of the memory by the call
 //!
 //! Changes:
 //!   u32       number of places, each:
@@ -36,6 +39,7 @@
 //!     n bytes   what stands there afterwards
 
 use super::*;
+use crate::points;
 
 pub const MAGIC: &[u8; 8] = b"MISEQ001";
 pub const END: &[u8; 4] = b"END.";
@@ -102,13 +106,18 @@ fn act_to(out: &mut Vec<u8>, act: &Act, left: Option<&Left>) {
             u32_to(out, scratch.length);
             out.extend([scratch.first, scratch.add]);
         }
+        Act::RunTo { n, points } => {
+            out.push(9);
+            u64_to(out, *n);
+            out.extend(points::bytes(points));
+        }
     }
     let Some(left) = left else { return };
     match act {
-        Act::Step => u64_to(out, left.answer),
+        Act::Step | Act::RunTo { .. } => u64_to(out, left.answer),
         _ => u32_to(out, left.answer as u32),
     }
-    if let Act::Run(_) = act {
+    if let Act::Run(_) | Act::RunTo { .. } = act {
         u64_to(out, left.steps);
     }
     if let Act::LoadBoth(_) = act {

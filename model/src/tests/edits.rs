@@ -1,6 +1,6 @@
 //! Edits for wrong copies: their form, and when one doesn't apply.
 
-use crate::faults::edits::{parse, Edit, Fault, Sources};
+use crate::faults::edits::{faults, parse, Edit, Fault, Sources};
 
 const TWO: &str = "# Remark\n\nOne: does wrong\nfile: src/map.rs\nold:  b\nnew:\nold: a:\nnew: c\n";
 
@@ -51,4 +51,11 @@ fn text_must_stand_there_once() {
         assert!(why.starts_with("One: "), "{why}");
     }
     assert_eq!(fault("src/map.rs", "b", "c").apply(&sources()).unwrap()["map"], "a: c\nd\nd\n");
+}
+
+#[test]
+fn files_come_by_their_numbers() {
+    let names: Vec<String> = faults().unwrap().into_iter().map(|fault| fault.name).collect();
+    let place = |name: &str| names.iter().position(|other| other == name).unwrap();
+    assert!(place("OnlyFirst") < place("DataSavedNext") && place("DataSavedNext") < place("PointLast"));
 }

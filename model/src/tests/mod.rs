@@ -2,15 +2,18 @@
 //! control block at 256, map at 384 with 8 writable pages in frames 4 to 11,
 //! kernel code at 512, system entry i leading to 600h + 8 × i.
 
+mod breakpoints;
 mod edits;
 mod fetch_entries;
 mod fetches;
 mod forms;
+mod held;
 mod joint;
 mod lists;
 mod near;
 mod numbers;
 mod order;
+mod point_sequences;
 mod sequences;
 mod shifts;
 mod stored;

@@ -50,7 +50,8 @@ fn changes_lead_from_old_to_new() {
 #[test]
 fn a_case_as_a_sequence_says_the_same() {
     let lists = [gen::list_programs::programs(), gen::pair_programs::programs(), gen::pair_refusals::lists()].concat();
-    for case in gen::entries::interrupts().iter().chain(&gen::refusals::refusals()).chain(&lists) {
+    let points = [gen::points::numbers(), gen::point_refusals::refusals()].concat();
+    for case in gen::entries::interrupts().iter().chain(&gen::refusals::refusals()).chain(&lists).chain(&points) {
         let expected = play(case);
         let sequence = Session::of_case("case", case).finish();
         let mut memory = sequence.memory.clone();
@@ -59,6 +60,9 @@ fn a_case_as_a_sequence_says_the_same() {
             assert_eq!(left.state, packed(&outcome.state));
             assert_eq!(left.steps, u64::from(outcome.count));
             assert_eq!(left.scratch, outcome.scratch);
+            if let Some(place) = outcome.held {
+                assert_eq!(left.answer, 4 << 32 | u64::from(place));
+            }
             for change in &left.changes {
                 memory[change.at as usize..][..change.bytes.len()].copy_from_slice(&change.bytes);
             }
@@ -84,12 +88,7 @@ fn random_sequences_meet_pages_without_commands() {
         let mut memory = sequence.memory.clone();
         let mut state = sequence.state;
         for (act, left) in &sequence.acts {
-            match act {
-                Act::State(bytes) => state = *bytes,
-                Act::Memory { at, bytes } => memory[*at as usize..][..bytes.len()].copy_from_slice(bytes),
-                Act::Length(length) => memory.resize(*length as usize, 0),
-                _ => {}
-            }
+            act.done(&mut memory, &mut state);
             let Some(left) = left else { continue };
             if *act == Act::Step {
                 let stepped = desk::step(&unpacked(&state), &mut memory.clone());

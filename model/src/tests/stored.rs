@@ -1,14 +1,18 @@
 //! Stored cases: what is written is read back, and the generator repeats itself.
 
-use crate::case::play;
+use super::breakpoints::standing;
+use super::Bench;
+use crate::case::{play, Call, Case};
 use crate::gen;
+use crate::points::{armed, off};
 use crate::store;
 
 #[test]
 fn written_is_read_back() {
     let lists = gen::lists::puts().into_iter().chain(gen::list_programs::programs());
     let pairs = gen::pair_refusals::scratches().into_iter().chain(gen::pair_programs::programs());
-    let lists = lists.chain(pairs).chain(gen::fetches::fetches());
+    let points = gen::point_refusals::refusals().into_iter().chain(gen::point_levels::levels());
+    let lists = lists.chain(pairs).chain(gen::fetches::fetches()).chain(points);
     let cases = gen::refusals::refusals().into_iter().chain(gen::entries::interrupts()).chain(lists);
     let pairs: Vec<_> = cases
         .filter(|case| case.image.len() <= store::SMALL)
@@ -31,4 +35,29 @@ fn same_cases_each_time() {
     assert!(gen::pair_refusals::orders() == gen::pair_refusals::orders());
     assert!(gen::fetches::fetches() == gen::fetches::fetches());
     assert!(gen::data_pages::data_pages() == gen::data_pages::data_pages());
+    assert!(gen::points::lists() == gen::points::lists());
+    assert!(gen::point_walks::walks() == gen::point_walks::walks());
+}
+
+/// The stored form of runs to breakpoints, byte by byte: held, ended, refused.
+#[test]
+fn a_run_in_a_case() {
+    let Bench { state: start, memory: image } = standing();
+    let two = vec![off(0x1F0), armed(0x1F0)];
+    let calls =
+        vec![Call::RunTo(5, two.clone()), Call::RunTo(1, two[1..].to_vec()), Call::RunTo(2, [two[0]; 65].into())];
+    let case = Case { ramps: vec![], image, start, calls };
+    let expected = play(&case);
+    let bytes = store::write(&[(case, expected)]);
+    let [one, other] = [[0, 0, 1, 0xF0, 0], [0, 0, 1, 0xF0, 1]];
+    let wanted = [
+        &[0, 3][..],
+        // Kind, n, number, breakpoints; refusal, count, held, place; no changed words.
+        &[&[6, 0, 0, 0, 5, 0, 0, 0, 2][..], &one, &other, &[0, 0, 0, 0, 1, 1, 0, 0, 0, 1, 0, 0, 0, 0]].concat(),
+        &[&[6, 0, 0, 0, 1, 0, 0, 0, 1][..], &other, &[0, 0, 0, 0, 1, 0, 0, 0, 0, 0]].concat(),
+        &[&[6, 0, 0, 0, 2, 0, 0, 0, 65][..], &one.repeat(65), &[20, 0, 0, 0, 0, 0, 0, 0, 0, 0]].concat(),
+        &[0, 0],
+    ]
+    .concat();
+    assert!(bytes.ends_with(&wanted));
 }

@@ -1,0 +1,2 @@
+-- Proofs of the runs with an array of breakpoints.
+pub mod Lending
