@@ -106,12 +106,12 @@ fn run_bytes(
         { unplaced = r; steps = now (steps .exit); state = now (state .exit); memory = now (mem .exit) }
         ≡ runBytesOf a n (now (state .entry)) (now (mem .entry)) ⌝ }
 {
-    let r = armed::run_armed(layout::unpack(*state), mem, n, a);
-    let d = r.desk;
+    let ran = armed::run_armed(layout::unpack(*state), mem, n, a);
+    let d = ran.desk;
     *state = layout::pack(d);
-    *steps = r.steps;
-    let answer = r.answer;
-    let r15 = breakpoints::r15_after(r);
+    *steps = ran.steps;
+    let answer = ran.answer;
+    let r15 = breakpoints::r15_after(ran);
     Unplaced { answer, r15 }
 }
 
