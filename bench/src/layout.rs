@@ -1,7 +1,7 @@
 //! A loop in its memory: program, map, data, registers.
 
 use crate::loops::{Loop, Mode};
-use crate::programs::program;
+use crate::programs::{program, ADDED, FIRST};
 use crate::state::{State, KERNEL, RUNNING};
 
 const SYSTEM_BLOCK: u32 = 0;
@@ -10,6 +10,12 @@ const CONTROL_BLOCK: u32 = 256;
 const ENTRY: u32 = 512;
 /// The first command of the loop.
 pub const PROGRAM: u32 = 1024;
+
+/// The high and the low word of a D.
+fn words(number: f64) -> [u32; 2] {
+    let bits = number.to_bits();
+    [(bits >> 32) as u32, bits as u32]
+}
 
 /// The registers before the first of so many turns, with the data at this address; R15 is not set.
 pub fn registers(turns: u32, data: u32) -> [u32; 16] {
@@ -20,13 +26,15 @@ pub fn registers(turns: u32, data: u32) -> [u32; 16] {
     registers[6] = 2;
     registers[7] = data + 128;
     registers[8] = data + 160;
+    registers[12..14].copy_from_slice(&words(ADDED));
     registers[14] = data + 4096;
     registers
 }
 
 /// The data before the first turn: offset, count of bytes, value. 16 counts the turns of the memory loop; 32 has the
-/// address that forms 5 and 6 read; the H and B values stand from 80 on.
-pub fn values(turns: u32, data: u32) -> [(u32, usize, u32); 11] {
+/// address that forms 5 and 6 read; the H and B values stand from 80 on, F and D from 96 on.
+pub fn values(turns: u32, data: u32) -> [(u32, usize, u32); 17] {
+    let ([added_high, added_low], [first_high, first_low]) = (words(ADDED), words(FIRST));
     [
         (0, 4, 3),
         (4, 4, 0),
@@ -39,6 +47,12 @@ pub fn values(turns: u32, data: u32) -> [(u32, usize, u32); 11] {
         (80, 2, 3),
         (84, 1, 0),
         (88, 2, 0),
+        (96, 4, (ADDED as f32).to_bits()),
+        (100, 4, (FIRST as f32).to_bits()),
+        (104, 4, added_high),
+        (108, 4, added_low),
+        (112, 4, first_high),
+        (116, 4, first_low),
     ]
 }
 

@@ -9,6 +9,7 @@ pub enum Kind {
     Forms,
     Jumps,
     Three,
+    Floats,
 }
 
 #[derive(Clone, Copy, PartialEq, Eq, Debug)]
@@ -24,8 +25,8 @@ pub struct Loop {
     pub mode: Mode,
 }
 
-const KINDS: [Kind; 7] =
-    [Kind::Register, Kind::Memory, Kind::Small, Kind::Stack, Kind::Forms, Kind::Jumps, Kind::Three];
+const KINDS: [Kind; 8] =
+    [Kind::Register, Kind::Memory, Kind::Small, Kind::Stack, Kind::Forms, Kind::Jumps, Kind::Three, Kind::Floats];
 
 /// The memory lengths of the table, in bytes.
 pub const LENGTHS: [usize; 2] = [512 * 1024, 16 * 1024 * 1024];
@@ -46,6 +47,7 @@ impl Kind {
             Kind::Forms => ("forms", "forms"),
             Kind::Jumps => ("jumps", "jumps"),
             Kind::Three => ("three", "three"),
+            Kind::Floats => ("floats", "floats"),
         }
     }
 
@@ -68,8 +70,13 @@ impl Loop {
         format!("{}-{}", self.kind.names().1, self.mode.name())
     }
 
-    pub fn named(name: &str) -> Option<Loop> {
-        all().find(|l| l.name() == name)
+    /// The loops of these names, with commas between; a name without a mode is that of both.
+    pub fn named(names: &str) -> Option<Vec<Loop>> {
+        let one = |name: &str| {
+            let named: Vec<Loop> = all().filter(|l| l.name() == name || l.kind.names().1 == name).collect();
+            (!named.is_empty()).then_some(named)
+        };
+        Some(names.split(',').map(one).collect::<Option<Vec<_>>>()?.concat())
     }
 
     /// The memories that it is measured in.
@@ -88,7 +95,7 @@ impl Loop {
             Kind::Stack => 7,
             Kind::Small => 8,
             Kind::Three => 9,
-            Kind::Jumps => 10,
+            Kind::Jumps | Kind::Floats => 10,
         }
     }
 
@@ -96,5 +103,18 @@ impl Loop {
     pub fn steps(self, turns: u32) -> u64 {
         let end = if self.mode == Mode::User { 2 } else { 1 };
         self.commands_per_turn() * u64::from(turns) + end
+    }
+}
+
+#[test]
+fn names() {
+    for which in all() {
+        assert_eq!(Loop::named(&which.name()), Some(vec![which]));
+        assert_eq!(Loop::named(which.kind.names().1).map(|named| named.len()), Some(2));
+    }
+    let names = all().map(|which| which.name()).collect::<Vec<_>>();
+    assert_eq!(Loop::named(&names.join(",")), Some(all().collect()));
+    for wrong in ["", "reg-user,", "reg-user,no", "reg user"] {
+        assert_eq!(Loop::named(wrong), None);
     }
 }

@@ -6,6 +6,10 @@ mod breakpoints;
 mod check;
 mod clock;
 mod contender;
+#[cfg(test)]
+mod float_places;
+#[cfg(test)]
+mod float_values;
 mod layout;
 mod lists;
 mod loader;
@@ -21,12 +25,16 @@ mod random;
 #[cfg(test)]
 mod random_breakpoints;
 #[cfg(test)]
+mod random_floats;
+#[cfg(test)]
 mod random_lists;
 #[cfg(test)]
 mod random_pairs;
 mod simh;
 mod state;
 mod table;
+#[cfg(test)]
+mod trial;
 mod vax;
 
 use breakpoints::Breakpoints;

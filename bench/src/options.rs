@@ -8,13 +8,14 @@ use crate::loops::{self, Loop};
 use crate::measure::Wanted;
 use crate::pairs::{self, Pairs};
 
-pub const USAGE: &str = "bench/run [ROUNDS] [--loop LOOP] [--list LIST] [--pair PAIR]  the tables, of a loop, a kind of list or a kind of pair alone where named (default: as many rounds as 3 minutes allow)
-bench/run [ROUNDS] --breakpoints POINTS [--loop LOOP]   the table of runs with breakpoints alone, of one list of them or all
+pub const USAGE: &str = "bench/run [ROUNDS] [--loop LOOPS] [--list LIST] [--pair PAIR]  the tables, of loops, a kind of list or a kind of pair alone where named (default: as many rounds as 3 minutes allow)
+bench/run [ROUNDS] --breakpoints POINTS [--loop LOOPS]   the table of runs with breakpoints alone, of one list of them or all
 bench/run --loop LOOP --count N [--desk DESK]   N commands of one desk, once, for a profiler
 bench/run --loop LOOP --breakpoints POINTS --count N [--desk DESK]   N commands of one desk with breakpoints, once
 bench/run --list LIST --count N [--desk DESK]   N loads by one desk, once, for a profiler
 bench/run --pair PAIR --count N [--desk DESK]   N loads of two lists by one desk, once, for a profiler
-LOOP: reg, mem, small, stack, forms, jumps or three, and -kernel or -user; DESK: proved (default), bytewise, word, model
+LOOP: reg, mem, small, stack, forms, jumps, three or floats, and -kernel or -user; DESK: proved (default), bytewise, word, model
+LOOPS: as LOOP or without the mode, which names both; several with commas between
 POINTS: none, off, one, near or 64, in the table also all; DESK: as for LOOP
 LIST: runs, pieces or again; DESK: proved (default), plain
 PAIR: runs or pieces; DESK: proved (default), plain";
@@ -29,7 +30,7 @@ pub enum Options {
 /// What the arguments name.
 #[derive(Default)]
 struct Named {
-    which: Option<Loop>,
+    which: Option<Vec<Loop>>,
     kind: Option<Lists>,
     pair: Option<Pairs>,
     breakpoints: Option<Vec<Breakpoints>>,
@@ -66,7 +67,7 @@ fn read(mut arguments: impl Iterator<Item = String>) -> Result<Named, String> {
 }
 
 impl Named {
-    /// All, or what is named. A loop that is named with breakpoints runs with them only.
+    /// All, or what is named. Loops that are named with breakpoints run with them only.
     fn wanted(self) -> Wanted {
         match self {
             Named { which: None, kind: None, pair: None, breakpoints: None, .. } => Wanted {
@@ -77,10 +78,9 @@ impl Named {
                 breakpoints: breakpoints::ALL.to_vec(),
             },
             Named { which, kind, pair, breakpoints, .. } => {
-                let one_or_all = which.map_or_else(|| loops::all().collect(), |which| vec![which]);
                 let (loops, breakpoint_loops) = match breakpoints {
-                    Some(_) => (vec![], one_or_all),
-                    None => (which.into_iter().collect(), vec![]),
+                    Some(_) => (vec![], which.unwrap_or_else(|| loops::all().collect())),
+                    None => (which.unwrap_or_default(), vec![]),
                 };
                 Wanted {
                     loops,
@@ -97,14 +97,16 @@ impl Named {
     fn once(self, count: u64) -> Result<Options, String> {
         let name = self.desk.as_deref().unwrap_or("proved");
         let loader = || Loader::named(name).ok_or_else(|| wrong("no such desk"));
-        match (self.which, self.kind, self.pair, self.breakpoints.as_deref()) {
-            (Some(which), None, None, None | Some([_])) => {
+        match (self.which.as_deref(), self.kind, self.pair, self.breakpoints.as_deref()) {
+            (Some(&[which]), None, None, None | Some([_])) => {
                 let contender = Contender::named(name).ok_or_else(|| wrong("no such desk"))?;
                 Ok(Options::Commands { which, breakpoints: self.breakpoints.map(|lists| lists[0]), contender, count })
             }
             (None, Some(kind), None, None) => Ok(Options::Loads { kind, loader: loader()?, count: count as usize }),
             (None, None, Some(kind), None) => Ok(Options::Calls { kind, loader: loader()?, count: count as usize }),
-            _ => Err(wrong("--count wants --loop, alone or with one list of breakpoints, or --list or --pair")),
+            _ => Err(wrong(
+                "--count wants --loop with one loop, alone or with one list of breakpoints, or --list or --pair",
+            )),
         }
     }
 }

@@ -33,6 +33,16 @@ const JLE: u8 = 0x76;
 const JV: u8 = 0x77;
 const CALL: u8 = 0x79;
 const RET: u8 = 0x7A;
+const ADD_F: u8 = 0x80;
+const ADD_D: u8 = 0x81;
+const MULT_F: u8 = 0x90;
+const MULT_D: u8 = 0x91;
+
+/// The loop of F and D takes x to x * x + this: so x stays between -2 and 2. From 0, which registers begin with, and
+/// from `FIRST`, which memory begins with, an F comes back to where it was only after thousands of turns, and a D after
+/// millions.
+pub const ADDED: f64 = -1.9;
+pub const FIRST: f64 = 0.25;
 
 enum Operand {
     /// Form, registers x and y, word.
@@ -173,6 +183,22 @@ const THREE: Program = &[
     (HALT, &[]),
 ];
 
+/// F and D: 10 commands a turn. Each of four numbers, of both kinds in registers and in memory, is multiplied by itself,
+/// and then `ADDED` is added.
+const FLOATS: Program = &[
+    (MULT_F, &[register(2), register(2)]),
+    (ADD_F, &[at(96), register(2)]),
+    (MULT_D, &[register(9), register(9)]),
+    (ADD_D, &[at(104), register(9)]),
+    (MULT_F, &[at(100), at(100)]),
+    (ADD_F, &[value((ADDED as f32).to_bits()), at(100)]),
+    (MULT_D, &[at(112), at(112)]),
+    (ADD_D, &[register(12), at(112)]),
+    (SUB_W, &[value(1), register(0)]),
+    (JNE, &[To(0)]),
+    (HALT, &[]),
+];
+
 fn commands(kind: Kind) -> Program {
     match kind {
         Kind::Register => REGISTER,
@@ -182,6 +208,7 @@ fn commands(kind: Kind) -> Program {
         Kind::Forms => FORMS,
         Kind::Jumps => JUMPS,
         Kind::Three => THREE,
+        Kind::Floats => FLOATS,
     }
 }
 

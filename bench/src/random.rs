@@ -2,6 +2,7 @@
 
 use crate::contender::{Contender, CONTENDERS};
 use crate::plain;
+use crate::random_floats;
 use crate::state::{State, KERNEL, RUNNING};
 use model::map::{lookup, Reason, Virtual};
 use model::rng::Rng;
@@ -19,13 +20,17 @@ fn address(rng: &mut Rng) -> u32 {
     match rng.below(16) {
         0 => rng.word(),
         1..=7 => rng.below(LENGTH as u32 + 60),
-        _ => (512 * (1 + rng.below(PAGES))).wrapping_sub(rng.below(6)),
+        _ => (512 * (1 + rng.below(PAGES))).wrapping_sub(rng.below(10)),
     }
 }
 
 /// An operand for a value of so many bytes.
 fn operand(rng: &mut Rng, size: u32) -> [u8; 6] {
-    let form = if rng.chance(3) { rng.below(256) as u8 } else { rng.below(9) as u8 };
+    let mut form = if rng.chance(3) { rng.below(256) as u8 } else { rng.below(9) as u8 };
+    // Form 1 is always an alarm for D.
+    if size == 8 && form == 1 && rng.chance(90) {
+        form = 2;
+    }
     let (mut x, mut y, mut z) = (rng.below(16) as u8, rng.below(16) as u8, address(rng));
     if rng.chance(50) {
         z = rng.below(64);
@@ -45,13 +50,26 @@ fn operand(rng: &mut Rng, size: u32) -> [u8; 6] {
     [form, x << 4 | y, z[0], z[1], z[2], z[3]]
 }
 
-/// A value of form 1: near 0 on both sides, as shifts use it, or `any`; mostly of the size that is allowed.
+/// A value of form 1: near 0 on both sides, as shifts use it, or an F, or `any`; mostly of the size that is allowed.
 fn number(rng: &mut Rng, size: u32, any: u32) -> u32 {
-    let value = if rng.chance(50) { rng.below(80).wrapping_sub(40) } else { any };
+    let value = match rng.below(4) {
+        0 => random_floats::number(rng, 4) as u32,
+        1 => any,
+        _ => rng.below(80).wrapping_sub(40),
+    };
     if rng.chance(5) {
         value
     } else {
-        value & u32::MAX >> (32 - 8 * size)
+        value & u32::MAX >> (32 - 8 * size.min(4))
+    }
+}
+
+/// The bytes of an operand's value, by the command's byte.
+fn size(code: u8) -> u32 {
+    match code {
+        0x10..=0x1F | 0x28..=0x5F | 0x64..=0x67 => 1 << (code % 4).min(2),
+        0x80..=0xA5 if code % 4 == 1 => 8,
+        _ => 4,
     }
 }
 
@@ -77,10 +95,13 @@ fn get(memory: &[u8], address: u32) -> u32 {
 /// Memory and state with a program somewhere in pages 2 to 4.
 pub fn case(rng: &mut Rng) -> (Vec<u8>, State) {
     let mut memory = vec![0; LENGTH];
-    for byte in &mut memory {
-        if rng.chance(30) {
-            *byte = rng.word() as u8;
-        }
+    for bytes in memory.chunks_exact_mut(8) {
+        let value = match rng.below(8) {
+            0 => random_floats::number(rng, 8),
+            1 | 2 => rng.next(),
+            _ => continue,
+        };
+        bytes.copy_from_slice(&value.to_be_bytes());
     }
     for cause in 0..32 {
         let status = if rng.chance(5) { rng.word() } else { KERNEL | rng.below(256) };
@@ -109,13 +130,18 @@ pub fn case(rng: &mut Rng) -> (Vec<u8>, State) {
         let code = code(rng, &covered);
         memory[at] = code;
         at += 1;
-        for (_, size) in model::code::decode(code).map_or(vec![], |command| command.operands) {
-            memory[at..at + 6].copy_from_slice(&operand(rng, size));
+        for _ in 0..model::code::decode(code).map_or(0, |command| command.operands.len()) {
+            memory[at..at + 6].copy_from_slice(&operand(rng, size(code)));
             at += 6;
         }
     }
     let mut registers = [0; 16];
     registers.fill_with(|| address(rng));
+    for _ in 0..rng.below(3) {
+        let x = rng.below(14) as usize;
+        let number = random_floats::number(rng, 8);
+        (registers[x], registers[x + 1]) = ((number >> 32) as u32, number as u32);
+    }
     registers[15] = start;
     let state = State {
         registers,
@@ -151,7 +177,7 @@ fn random_programs() {
     let mut numbers = [0u64; 33];
     let mut done = [0u64; 256];
     let mut unfetched = [0u64; 2];
-    for case_number in 0..60_000 {
+    for case_number in 0..120_000 {
         let (mut memory, mut state) = case(&mut rng);
         let first = (memory.clone(), state);
         let mut steps = 0;

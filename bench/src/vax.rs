@@ -1,5 +1,5 @@
-//! The loops on the VAX, one instruction for each command. Its CALLS does other work than CALL and PUSHR, so the stack
-//! has none.
+//! The loops on the VAX, one instruction for each command. Its CALLS does other work than CALL and PUSHR, and its floating
+//! numbers are not the IEEE ones, so the stack and the floats have none.
 
 use crate::loops::Kind;
 
@@ -81,5 +81,6 @@ pub fn program(kind: Kind) -> Option<&'static [u8]> {
         Kind::Forms => Some(FORMS),
         Kind::Jumps => Some(JUMPS),
         Kind::Three => Some(THREE),
+        Kind::Floats => None,
     }
 }

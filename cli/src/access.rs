@@ -75,7 +75,7 @@ fn all(desk: &Desk, memory: &[u8], names: &Names, command: &Decoded) -> Vec<Acce
             let words = format!("the pointer of {operand}");
             uses.push(Access { words, address: base, length: 4, register: None, fixed: false, steps: None });
         }
-        let length = effect::length(rule.size);
+        let length = rule.size.bytes();
         let read = |address| effect::word(desk, memory, address);
         let Some(at) = effect::address(fields, length, &mut registers, &read) else { return uses };
         if let Some(address) = at.filter(|_| rule.role != Role::Address) {

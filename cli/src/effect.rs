@@ -3,7 +3,7 @@
 
 use crate::decode::{Decoded, Fields, Trouble};
 use crate::forms;
-use crate::table::{Role, Size};
+use crate::table::Role;
 use crate::view;
 use midesk::Desk;
 
@@ -57,9 +57,9 @@ fn target(desk: &Desk, memory: &[u8], command: &Decoded) -> Option<(u32, u32)> {
     for (place, (fields, rule)) in command.operands.iter().zip(command.command.operands).enumerate() {
         registers[15] = command.r15_in(place);
         let read = |address| word(desk, memory, address);
-        let address = address(fields, length(rule.size), &mut registers, &read)?;
+        let address = address(fields, rule.size.bytes(), &mut registers, &read)?;
         if matches!(rule.role, Role::Destination | Role::Update) {
-            written = address.map(|address| (address, length(rule.size)));
+            written = address.map(|address| (address, rule.size.bytes()));
         }
     }
     let stack = |bytes: u32| Some((registers[14].wrapping_sub(bytes), bytes));
@@ -98,14 +98,6 @@ pub fn address(
         }
         _ => None,
     })
-}
-
-pub fn length(size: Size) -> u32 {
-    match size {
-        Size::B => 1,
-        Size::H => 2,
-        Size::W => 4,
-    }
 }
 
 /// Bytes from an address on as pieces whose real bytes are neighbours; bytes that lead nowhere are left out.

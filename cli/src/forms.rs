@@ -1,7 +1,7 @@
 //! The nine forms of an operand: which of x, y and z each one uses, and the rules behind alarm 14.
 
 use crate::decode::Fields;
-use crate::table::{Operand, Role};
+use crate::table::{Operand, Role, Size};
 
 /// A form. What it does not use must be 0.
 #[derive(Clone, Copy, PartialEq, Eq, Debug)]
@@ -31,8 +31,8 @@ const fn form(number: u8, x: bool, y: bool, z: bool, written: &'static str, is: 
 
 pub const FORMS: [Form; 9] = [
     form(ADDRESS, false, false, true, "400h", "at address 400h; a name is an address too"),
-    form(VALUE, false, false, true, "I 5", "the value 5 itself"),
-    form(REGISTER, true, false, false, "R1", "register 1; SP is R14, PC is R15"),
+    form(VALUE, false, false, true, "I 5", "the value 5 itself, for F also `I 1.5`; none for D"),
+    form(REGISTER, true, false, false, "R1", "register 1, for D registers 1 and 2; SP is R14, PC is R15"),
     form(BASE, true, false, true, "8+!R1", "at address 8 + R1; `!R1` without the 8"),
     form(BASE_INDEX, true, true, true, "8+!R1/R2/", "at address 8 + R1 + R2 x L, L being the operand's bytes"),
     form(INDIRECT, true, false, true, "!(8+!R1)", "at the address in the word at 8 + R1; `!!R1` without the 8"),
@@ -71,5 +71,14 @@ fn keeps_rules(fields: &Fields, operand: Operand) -> bool {
     let unused_are_zero = (form.x || fields.x == 0) && (form.y || fields.y == 0) && (form.z || fields.z == 0);
     let steps_r15 = matches!(fields.form, STEP_DOWN | STEP_UP) && fields.x == 15;
     let too_large = fields.form == VALUE && fields.z > operand.size.highest();
-    unused_are_zero && !steps_r15 && !too_large
+    unused_are_zero && !steps_r15 && !too_large && size_allows(fields.form, fields.x, operand.size)
+}
+
+/// A D does not fit in z, and not every register holds a floating number.
+pub fn size_allows(form: u8, x: u8, size: Size) -> bool {
+    match form {
+        VALUE => size != Size::D,
+        REGISTER => x <= size.last_register(),
+        _ => true,
+    }
 }

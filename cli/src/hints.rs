@@ -8,8 +8,8 @@ use crate::image;
 use crate::load::{self, Clash, Malformed, Wrong};
 use crate::machine::{self, Known};
 use crate::neighbours;
-use crate::notation::hexadecimal;
-use crate::table::{self, Operand, Role};
+use crate::notation::{self, hexadecimal};
+use crate::table::{self, Operand, Role, Size};
 use crate::view::{self, Damage};
 use crate::words;
 use midesk::{numbers, Desk};
@@ -194,7 +194,7 @@ fn operand(memory: &[u8], desk: &Desk, place: u32) -> Option<String> {
         *byte = fetch(first.wrapping_add(i as u32))?;
     }
     let broken = rule_of(&Fields::of_bytes(six), *rule)?;
-    Some(format!("operand {place} of {} (six bytes at {}): {broken}", command.name, hexadecimal(first)))
+    Some(format!("operand {place} of {} (six bytes at {}): {broken}", command.title(), hexadecimal(first)))
 }
 
 /// The rule that an operand breaks.
@@ -212,6 +212,16 @@ pub fn rule_of(fields: &Fields, rule: Operand) -> Option<String> {
     }
     if fields.form == forms::VALUE && fields.z > rule.size.highest() {
         return Some(format!("the value {} does not fit in its size", hexadecimal(fields.z)));
+    }
+    if !forms::size_allows(fields.form, fields.x, rule.size) {
+        return Some(match (fields.form, rule.size) {
+            (forms::VALUE, _) => format!("{named} has no room for a D: put the number in memory"),
+            (_, Size::D) => {
+                let register = notation::register(fields.x);
+                format!("{named} is two registers for D, {register} and the next, and SP and R15 are none for it; the first may be R0 to R13")
+            }
+            _ => format!("{named} cannot be R15 for F, a floating number; it may be R0 to R14"),
+        });
     }
     match rule.role {
         _ if forms::role_allows(fields.form, rule.role) => None,

@@ -2,10 +2,12 @@
 
 use crate::decode::{self, Decoded, Trouble};
 use crate::effect::{self, Piece};
+use crate::forms;
 use crate::image::{Image, Program, SourceLine};
 use crate::names::Names;
 use crate::notation;
 use crate::options;
+use crate::table::{Role, Size};
 use crate::view;
 use midesk::{Desk, Event, Refusal};
 
@@ -48,6 +50,8 @@ pub struct Step {
     pub changes: Vec<Change>,
     /// The bytes of the control block that an entry wrote over.
     pub saved: Option<Change>,
+    /// The bits of the floating number that the command gave, and its kind.
+    pub result: Option<(u64, Size)>,
 }
 
 impl Machine {
@@ -80,12 +84,32 @@ impl Machine {
         let event = self.desk.step(&mut self.memory)?;
         self.steps += 1;
         let entered = matches!(event, Event::Entered(_));
+        let result = match (&command, event) {
+            (Some(Ok(command)), Event::Done) => self.result(command, olds.iter().map(|(piece, _)| *piece)),
+            _ => None,
+        };
         let saved = entered.then(|| self.change(block, old_block));
         let changes = match entered {
             true => Vec::new(),
             false => olds.into_iter().map(|(piece, old)| self.change(piece, old)).filter(|c| c.old != c.new).collect(),
         };
-        Ok(Step { number: self.steps, before, after: self.desk.clone(), command, event, changes, saved })
+        Ok(Step { number: self.steps, before, after: self.desk.clone(), command, event, changes, saved, result })
+    }
+
+    /// What a command of floating numbers has left in its last operand, which is a register, or these pieces of memory.
+    fn result(&self, command: &Decoded, written: impl Iterator<Item = Piece>) -> Option<(u64, Size)> {
+        let size = command.command.size.filter(|size| size.is_floating())?;
+        let (fields, rule) = command.operands.last().zip(command.command.operands.last())?;
+        let bytes: Vec<u8> = match (rule.role, fields.form) {
+            (Role::Value | Role::Address, _) => return None,
+            (_, forms::REGISTER) => {
+                let words = (usize::from(fields.x)..).take(size.bytes() as usize / 4);
+                words.flat_map(|register| self.desk.register(register).to_be_bytes()).collect()
+            }
+            _ => written.flat_map(|piece| self.bytes(piece)).collect(),
+        };
+        let bits = bytes.iter().fold(0, |bits, byte| bits << 8 | u64::from(*byte));
+        (bytes.len() == size.bytes() as usize).then_some((bits, size))
     }
 
     fn change(&self, piece: Piece, old: Vec<u8>) -> Change {

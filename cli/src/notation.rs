@@ -1,6 +1,7 @@
 //! A command in MI's notation, and how numbers are written and read.
 
 use crate::decode::{Decoded, Fields};
+use crate::floats;
 use crate::forms;
 use crate::names::Names;
 use crate::table::{Operand, Role, Size};
@@ -66,8 +67,11 @@ fn indirect(fields: &Fields, names: &Names) -> String {
     }
 }
 
-/// A value of a size: small ones decimal, with a sign where the highest bit is set, others hexadecimal.
+/// A value of a size: small ones decimal, with a sign where the highest bit is set, others hexadecimal; of F as a floating number.
 pub fn value(z: u32, size: Size) -> String {
+    if size.is_floating() {
+        return floats::written(u64::from(z), size);
+    }
     let below = u64::from(size.highest()) + 1 - u64::from(z);
     match (z, below) {
         (0..=99, 129..) => z.to_string(),
@@ -87,6 +91,7 @@ pub fn hexadecimal(number: u32) -> String {
 
 /// A number as users write it: `410h`, `0x410`, `H'410'`, `1040`, `-1`.
 pub fn number(text: &str) -> Option<u32> {
+    let unsigned = |text| long(text).and_then(|number| u32::try_from(number).ok());
     if let Some(rest) = text.strip_prefix('-') {
         let magnitude = unsigned(rest)?;
         return (magnitude <= 1 << 31).then(|| magnitude.wrapping_neg());
@@ -94,7 +99,8 @@ pub fn number(text: &str) -> Option<u32> {
     unsigned(text)
 }
 
-fn unsigned(text: &str) -> Option<u32> {
+/// A number without a sign, of up to 64 bits.
+pub fn long(text: &str) -> Option<u64> {
     let hexadecimal = text
         .strip_prefix("0x")
         .or_else(|| text.strip_prefix("H'").and_then(|rest| rest.strip_suffix('\'')))
@@ -105,9 +111,9 @@ fn unsigned(text: &str) -> Option<u32> {
     }
 }
 
-fn digits_of(text: &str, radix: u32) -> Option<u32> {
+fn digits_of(text: &str, radix: u32) -> Option<u64> {
     if text.is_empty() || !text.chars().all(|c| c.is_digit(radix)) {
         return None;
     }
-    u32::from_str_radix(text, radix).ok()
+    u64::from_str_radix(text, radix).ok()
 }

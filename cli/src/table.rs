@@ -1,14 +1,9 @@
 //! The table of command bytes: name, size, operands with their roles, mode, and where the next command is.
 //!
-//! `tests/table.rs` holds every row against the proved machine and against its definition, `crates/machine/specs/Code.antt`.
+//! `tests/table.rs` holds every row against the proved machine, `tests/table_definition.rs` against its definition,
+//! `crates/machine/specs/Code.antt` and, for floating numbers, `FloatCode.antt` beside it.
 
-/// The size of an operand: one, two or four bytes.
-#[derive(Clone, Copy, PartialEq, Eq, Debug)]
-pub enum Size {
-    B,
-    H,
-    W,
-}
+pub use crate::size::Size;
 
 /// What a command does with an operand.
 #[derive(Clone, Copy, PartialEq, Eq, Debug)]
@@ -63,7 +58,8 @@ pub struct Command {
     pub flow: Flow,
 }
 
-/// One byte, or three from a first one on for B, H, W; how it is written, with s for the size, and what it does.
+/// One byte, three from a first one on for B, H, W, or two for F, D; how it is written, with s for the size or f for the kind,
+/// and what it does.
 struct Row {
     byte: u8,
     name: &'static str,
@@ -76,6 +72,7 @@ struct Row {
 enum Kind {
     One { operands: Operands, mode: Mode, flow: Flow },
     Sized([Operands; 3]),
+    Floating([Operands; 2]),
 }
 
 impl Row {
@@ -101,11 +98,25 @@ macro_rules! sizes {
     };
 }
 
+/// The same for each kind of floating numbers.
+macro_rules! kinds {
+    ($($role:ident),*) => {
+        [
+            &[$(operand(Size::F, Role::$role)),*],
+            &[$(operand(Size::D, Role::$role)),*],
+        ]
+    };
+}
+
 const TRANSPORT: [Operands; 3] = sizes!(Value, Destination);
 const ONE: [Operands; 3] = sizes!(Destination);
 const TWO: [Operands; 3] = sizes!(Value, Update);
 const THREE: [Operands; 3] = sizes!(Value, Value, Destination);
 const COMPARED: [Operands; 3] = sizes!(Value, Value);
+const FLOATING_TRANSPORT: [Operands; 2] = kinds!(Value, Destination);
+const FLOATING_TWO: [Operands; 2] = kinds!(Value, Update);
+const FLOATING_THREE: [Operands; 2] = kinds!(Value, Value, Destination);
+const FLOATING_COMPARED: [Operands; 2] = kinds!(Value, Value);
 const NONE: Operands = &[];
 const ADDRESS: Operands = &[operand(Size::W, Role::Address)];
 const ARGUMENT: Operands = &[operand(Size::W, Role::Value)];
@@ -118,6 +129,10 @@ const fn one(byte: u8, name: &'static str, operands: Operands, mode: Mode, flow:
 
 const fn sized(byte: u8, name: &'static str, operands: [Operands; 3]) -> Row {
     Row { byte, name, kind: Kind::Sized(operands), usage: "", does: "" }
+}
+
+const fn floating(byte: u8, name: &'static str, operands: [Operands; 2]) -> Row {
+    Row { byte, name, kind: Kind::Floating(operands), usage: "", does: "" }
 }
 
 use Flow::{Branch, Call, End, Jump, Next};
@@ -162,13 +177,31 @@ const ROWS: &[Row] = &[
     one(0x74, "JGE", ADDRESS, Both, Branch).means("JGE a", "if not N; after CMP: greater or equal"),
     one(0x75, "JLT", ADDRESS, Both, Branch).means("JLT a", "if N; after CMP: less"),
     one(0x76, "JLE", ADDRESS, Both, Branch).means("JLE a", "if N or Z; after CMP: less or equal"),
-    one(0x77, "JV", ADDRESS, Both, Branch).means("JV a", "if V, an overflow"),
+    one(0x77, "JV", ADDRESS, Both, Branch)
+        .means("JV a", "if V: an overflow, or a floating number that is infinite or NaN"),
     one(0x78, "JC", ADDRESS, Both, Branch).means("JC a", "if C, an unsigned carry or borrow"),
     one(0x79, "CALL", ADDRESS, Both, Call).means("CALL a", "pushes the next address and goes on at a"),
     one(0x7A, "RET", NONE, Both, End).means("RET", "pops the address at which it goes on"),
+    floating(0x80, "ADD", FLOATING_TWO).means("ADD f a,b", "b := b + a; V where it is infinite or NaN"),
+    floating(0x84, "ADD", FLOATING_THREE).means("ADD f a,b,c", "c := b + a, likewise"),
+    floating(0x88, "SUB", FLOATING_TWO).means("SUB f a,b", "b := b - a, likewise"),
+    floating(0x8C, "SUB", FLOATING_THREE).means("SUB f a,b,c", "c := b - a, likewise"),
+    floating(0x90, "MULT", FLOATING_TWO).means("MULT f a,b", "b := b x a, likewise"),
+    floating(0x94, "MULT", FLOATING_THREE).means("MULT f a,b,c", "c := b x a, likewise"),
+    floating(0x98, "DIV", FLOATING_TWO).means("DIV f a,b", "b := b / a, likewise; a = 0 is no alarm"),
+    floating(0x9C, "DIV", FLOATING_THREE).means("DIV f a,b,c", "c := b / a, likewise"),
+    floating(0xA0, "MOVE", FLOATING_TRANSPORT).means("MOVE f a,b", "b := a, bit by bit; flags as of ADD"),
+    floating(0xA4, "CMP", FLOATING_COMPARED)
+        .means("CMP f a,b", "N where a < b, Z where a = b, V alone where one is NaN"),
 ];
 
 const SIZES: [Size; 3] = [Size::B, Size::H, Size::W];
+const KINDS: [Size; 2] = [Size::F, Size::D];
+
+/// A command of a row with several sizes: both modes allow it, and the next one follows.
+const fn plain(byte: u8, name: &'static str, size: Size, operands: Operands) -> Command {
+    Command { byte, name, size: Some(size), operands, mode: Both, flow: Next }
+}
 
 const fn by_byte() -> [Option<Command>; 256] {
     let mut table = [None; 256];
@@ -182,10 +215,15 @@ const fn by_byte() -> [Option<Command>; 256] {
             Kind::Sized(operands) => {
                 let mut k = 0;
                 while k < 3 {
-                    let byte = byte + k as u8;
-                    let (size, operands) = (Some(SIZES[k]), operands[k]);
-                    table[byte as usize] = Some(Command { byte, name, size, operands, mode: Both, flow: Next });
+                    table[byte as usize + k] = Some(plain(byte + k as u8, name, SIZES[k], operands[k]));
                     k += 1;
+                }
+            }
+            Kind::Floating(operands) => {
+                let mut j = 0;
+                while j < 2 {
+                    table[byte as usize + j] = Some(plain(byte + j as u8, name, KINDS[j], operands[j]));
+                    j += 1;
                 }
             }
         }
@@ -215,43 +253,6 @@ pub fn command(byte: u8) -> Option<&'static Command> {
 /// All commands, in the order of their bytes.
 pub fn commands() -> impl Iterator<Item = &'static Command> {
     BY_BYTE.iter().flatten()
-}
-
-impl Size {
-    /// Its bytes, the L of the manual.
-    pub fn bytes(self) -> u32 {
-        match self {
-            Size::B => 1,
-            Size::H => 2,
-            Size::W => 4,
-        }
-    }
-
-    pub fn letter(self) -> char {
-        match self {
-            Size::B => 'B',
-            Size::H => 'H',
-            Size::W => 'W',
-        }
-    }
-
-    pub fn of_letter(letter: &str) -> Option<Size> {
-        match letter {
-            "B" => Some(Size::B),
-            "H" => Some(Size::H),
-            "W" => Some(Size::W),
-            _ => None,
-        }
-    }
-
-    /// The highest value that fits, unsigned.
-    pub fn highest(self) -> u32 {
-        match self {
-            Size::B => 0xFF,
-            Size::H => 0xFFFF,
-            Size::W => u32::MAX,
-        }
-    }
 }
 
 impl Command {

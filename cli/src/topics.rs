@@ -78,7 +78,7 @@ pub const TOPICS: &[Topic] = &[
 
 /// Sizes, frames, pages and blocks, as the manual has them.
 const MEMORY: &[Text] = &[
-    Say("The sizes are B, 1 byte, H, 2 bytes, and W, a word of 4 bytes. A value's highest byte comes first (big-endian): the word 01020304h is stored as 01 02 03 04. Commands and values may stand at any address."),
+    Say("The sizes are B, 1 byte, H, 2 bytes, and W, a word of 4 bytes; floating numbers are F, 4 bytes, and D, 8 bytes, IEEE's binary32 and binary64. A value's highest byte comes first (big-endian): the word 01020304h is stored as 01 02 03 04. Commands and values may stand at any address."),
     Say("The memory is a row of frames of 512 bytes: frame f has the real addresses from 512 x f on. The kernel uses real addresses. A program uses virtual ones, in pages of 512 bytes, and its map says to which frame each page leads: page p has the addresses from 512 x p on, and the word at map base + 4 x p is its entry:"),
     Table(&[
         ("80000000h", "the page is there; without this bit the entry is absent, and the others mean nothing"),
@@ -102,7 +102,7 @@ const STOPS: &[(&str, &str)] = &[
     ("12", "alarm: an unknown command byte; argument: the byte"),
     ("13", "alarm: HALT or RESUME in user mode, a system call in kernel mode; argument: the byte"),
     ("14", "alarm: an operand breaks a rule of its form, or RESUME's block cannot be used; argument: the operand's place, from 1"),
-    ("15", "alarm: DIV by zero; argument: 0"),
+    ("15", "alarm: DIV of B, H or W by zero; argument: 0"),
     ("16", "stop: an alarm, a system call or an interrupt came, and the system block has no valid kernel status for it"),
     ("17 to 31", "cause: an interrupt of level 1 to 15; argument: the level"),
     ("21", "alarm: a byte of a command is fetched from a page without commands, whose map entry has 20000000h; its cause is 2, since 21 is that of an interrupt; argument: the byte's address"),

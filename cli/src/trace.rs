@@ -2,6 +2,7 @@
 
 use crate::decode::Decoded;
 use crate::diagnose::Finding;
+use crate::floats;
 use crate::hints;
 use crate::machine::{Change, Known, Step};
 use crate::notation::{self, hexadecimal};
@@ -62,10 +63,11 @@ pub fn command(known: &Known, step: &Step) -> String {
     }
 }
 
-/// Registers (but R15) and memory that the step changed, in words.
+/// Registers (but R15) and memory that the step changed, in words, and a floating number that it gave.
 pub fn changes(known: &Known, step: &Step) -> Vec<String> {
     let mut parts: Vec<String> = registers(step).iter().map(|(name, old, new)| change(name, *old, *new)).collect();
     parts.extend(step.changes.iter().map(|change| memory_change(known, step, change)));
+    parts.extend(step.result.map(|(bits, size)| format!("result {}", floats::in_words(bits, size))));
     parts
 }
 
@@ -93,9 +95,14 @@ fn memory_change(known: &Known, step: &Step, change: &Change) -> String {
     }
 }
 
-/// Up to four bytes as a number.
+/// Up to eight bytes as a number.
 fn value(bytes: &[u8]) -> Option<String> {
-    (bytes.len() <= 4).then(|| hexadecimal(bytes.iter().fold(0, |word, byte| word << 8 | u32::from(*byte))))
+    let number = bytes.iter().fold(0, |number, byte| number << 8 | u64::from(*byte));
+    match u32::try_from(number) {
+        _ if bytes.len() > 8 => None,
+        Ok(number) => Some(hexadecimal(number)),
+        Err(_) => Some(format!("{number:016X}h")),
+    }
 }
 
 /// The argument that an entry saved.

@@ -100,7 +100,7 @@ pub const VERBS: &[Verb] = &[
         ],
         text: &[
             Say("Without --trace the program runs at the library's full speed. On a terminal a run of more than a second shows its progress."),
-            Say("The trace writes flags as letters, N Z V C, and `-` for those that are clear. A register or memory word that a step changed is shown with its old and its new value. A kernel entry is shown with its cause and argument in words."),
+            Say("The trace writes flags as letters, N Z V C, and `-` for those that are clear. A register or memory word that a step changed is shown with its old and its new value, and of a command with F or D the floating number that it gave. A kernel entry is shown with its cause and argument in words."),
             Say("Breakpoints are numbered from 1, in the order of the options. A name belongs to the kernel or to one program, the first that has it, and only that is held; a number is compared with R15 alone, whoever runs. Where an interrupt is due before the command, the kernel is entered first, and the run is held when the program comes back."),
             Say("With --json each step of --trace is an object, and the last object tells the end. The fields of a step:"),
             Table(&[
@@ -187,7 +187,7 @@ pub const VERBS: &[Verb] = &[
             Table(crate::asm::reference::LINES),
             Say("Operands. The destination is the last one."),
             Table(&crate::forms::SUMMARY),
-            Say("Commands; s is the size: B, H or W, of 1, 2 or 4 bytes."),
+            Say("Commands; s is the size: B, H or W, of 1, 2 or 4 bytes. f is the kind of floating numbers: F or D, of 4 or 8 bytes; a D takes two registers, R0 to R13 and the next."),
             Table(&crate::table::SUMMARY),
             Say("Data, places, blocks and maps."),
             Table(crate::asm::reference::DIRECTIVES),

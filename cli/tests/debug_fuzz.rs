@@ -6,7 +6,7 @@ use desk::debug::{dialogue, Place};
 use desk::machine::Machine;
 use support::{images, Random};
 
-const WORDS: [&str; 46] = [
+const WORDS: [&str; 51] = [
     "step",
     "s",
     "run",
@@ -27,6 +27,11 @@ const WORDS: [&str; 46] = [
     "i",
     "memory",
     "x",
+    "show",
+    "F",
+    "D",
+    "R4",
+    "SP",
     "real",
     "list",
     "l",

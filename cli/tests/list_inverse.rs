@@ -56,6 +56,13 @@ fn edges(rule: Operand) -> Vec<Fields> {
         0xFFFF_FF80,
         0xFFFF_FFD8,
         0xFFFF_FFFF,
+        0x3FC0_0000,
+        0x7F7F_FFFF,
+        0x7F80_0000,
+        0x7F80_0001,
+        0x7FC0_0000,
+        0xFF80_0000,
+        0xFFC0_0001,
     ];
     let mut found = Vec::new();
     for form in FORMS {

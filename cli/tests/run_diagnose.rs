@@ -25,7 +25,7 @@ fn found(code: &[u8]) -> Option<Finding> {
 
 #[test]
 fn alarms_in_kernel_mode() {
-    let cases: [(&[u8], Finding); 10] = [
+    let cases: [(&[u8], Finding); 17] = [
         (&[0x10, 0, 0, 0, 0, 4, 0, 2, 0, 0, 0, 0, 0], Finding::Cause(8, 0x400)),
         (&[0x12, 0, 0, 0, 0, 3, 0xFE, 2, 0, 0, 0, 0, 0], Finding::Cause(8, 0x400)),
         (&[0x12, 1, 0, 0, 0, 0, 0, 0, 0, 0, 0, 3, 0xFD], Finding::Cause(8, 0x400)),
@@ -36,6 +36,13 @@ fn alarms_in_kernel_mode() {
         (&[5, 0, 0, 0, 0, 1, 2], Finding::Block(0x102)),
         (&[0x16, 2, 0, 0, 0, 0, 0, 5, 0, 0, 0, 0, 1, 2], Finding::Block(0x102)),
         (&[0x58, 1, 0, 0, 0, 0, 0, 2, 0, 0, 0, 0, 0], Finding::Cause(15, 0)),
+        (&[0x82], Finding::Cause(12, 0x82)),
+        (&[0x81, 1, 0, 0, 0, 0, 0, 2, 0, 0, 0, 0, 0], Finding::Cause(14, 1)),
+        (&[0xA1, 2, 0xD0, 0, 0, 0, 0, 2, 0xE0, 0, 0, 0, 0], Finding::Cause(14, 2)),
+        (&[0xA0, 2, 0xE0, 0, 0, 0, 0, 2, 0xF0, 0, 0, 0, 0], Finding::Cause(14, 2)),
+        (&[0xA1, 0, 0, 0, 0, 3, 0xFC, 2, 0, 0, 0, 0, 0], Finding::Cause(8, 0x400)),
+        (&[0xA1, 2, 0, 0, 0, 0, 0, 0, 0, 0, 0, 3, 0xF9], Finding::Cause(8, 0x400)),
+        (&[0x98, 1, 0, 0, 0, 0, 0, 1, 0, 0, 0, 0, 0], Finding::Cause(14, 2)),
     ];
     for (code, finding) in cases {
         assert_eq!(found(code), Some(finding), "{code:02X?}");
@@ -181,6 +188,37 @@ fn alarms_of_a_program_in_words() {
     }
 }
 
+/// Why a floating number cannot be where an operand has it.
+#[test]
+fn operands_of_floating_numbers_in_words() {
+    for (bytes, look) in [
+        (
+            "81h,1,0,0,0,0,0,2,0,0,0,0,0",
+            "operand 1 of ADD D (six bytes at 201h): form 1, as in `I 5`, has no room for a D: put the number in memory",
+        ),
+        (
+            "A1h,2,0,0,0,0,0,2,E0h,0,0,0,0",
+            "operand 2 of MOVE D (six bytes at 207h): form 2, as in `R1`, is two registers for D, SP and the next, and SP and R15 are none for it; the first may be R0 to R13",
+        ),
+        (
+            "A5h,2,F0h,0,0,0,0,2,0,0,0,0,0",
+            "operand 1 of CMP D (six bytes at 201h): form 2, as in `R1`, is two registers for D, R15 and the next, and SP and R15 are none for it; the first may be R0 to R13",
+        ),
+        (
+            "84h,2,0,0,0,0,0,2,E0h,0,0,0,0,2,F0h,0,0,0,0",
+            "operand 3 of ADD F (six bytes at 20Dh): form 2, as in `R1`, cannot be R15 for F, a floating number; it may be R0 to R14",
+        ),
+        (
+            "80h,2,0,0,0,0,0,1,0,0,0,0,0",
+            "operand 2 of ADD F (six bytes at 207h): form 1, as in `I 5`, cannot be written to",
+        ),
+    ] {
+        let out = words("floating.mi", &format!("start:  DD B {bytes}\n")).replace("\n    ", " ");
+        assert!(out.starts_with("stop 14 after 1 step: alarm 14 in kernel mode"), "{out}");
+        assert!(out.contains(&format!("look at: {look}")), "'{look}' is not in\n{out}");
+    }
+}
+
 /// A program without an entry for alarm 21 whose page 0 has commands, pages 1 and 2 none; run: the end in words, unfolded.
 fn without_commands(page: &str, program: &str) -> String {
     let source = format!(
@@ -312,6 +350,9 @@ fn addresses_are_told_with_what_gave_them() {
         ("MOVE W R0,go", "0 is operand 2, go; only page 2 (400h to 5FFh) may be written"),
         ("MOVE W !(800h+!R1),R2", "800h is from the pointer of operand 1, !(800h+!R1) (R1 is 0); it is the first byte after page 3 (600h to 7FFh), which is there"),
         ("JUMP 240h", "240h is from R15, where the next command is read"),
+        ("MOVE W I 5FCh,R1\n        MOVE D R4,!R1+", "600h is one of the 8 bytes from 5FCh on, of operand 2, !R1+ (R1 is 5FCh); it is the first byte after page 2 (400h to 5FFh), which may be written; R1, which the command steps up, is past its end"),
+        ("MOVE W I 400h,R3\n        ADD D -!R3,R4", "3F8h is from operand 1, -!R3 (R3 is 400h); it is 8 bytes before the start of page 2 (400h to 5FFh), which is there; R3, which the command steps down, goes before its start"),
+        ("MOVE W I 600h,R1\n        MOVE W I 2,R2\n        MOVE D R4,!R1/R2/", "610h is from operand 2, !R1/R2/ (R1 is 600h, R2 is 2); it is 17 bytes past the end of page 2 (400h to 5FFh), which may be written"),
     ];
     for (program, words) in cases {
         assert_eq!(addressed(program).0, words, "{program}");

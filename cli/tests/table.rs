@@ -3,7 +3,7 @@
 
 use desk::decode::Fields;
 use desk::forms;
-use desk::table::{command, Command, Flow, Mode, Operand, Role};
+use desk::table::{command, Command, Flow, Mode, Operand, Role, Size};
 use midesk::{Desk, Event, Mark};
 
 const COMMAND: u32 = 0x600;
@@ -98,7 +98,7 @@ fn unknown_bytes_are_alarm_12() {
         }
         assert!(command(byte).is_none_or(|command| command.byte == byte));
     }
-    assert_eq!(commands().count(), 77);
+    assert_eq!(commands().count(), 97);
 }
 
 #[test]
@@ -152,14 +152,18 @@ fn sizes_are_the_steps_of_registers() {
     }
 }
 
-/// Roles: form 1 is for values alone, form 2 for all but addresses; an update's result depends on what was there.
+/// Roles: form 1 is for values alone, form 2 for all but addresses; an update's result depends on what was there. A value of D
+/// has no form 1 and is not written.
 #[test]
 fn roles_are_what_forms_and_memory_show() {
     for command in commands() {
         for (place, rule) in command.operands.iter().enumerate() {
             let what = format!("{}, operand {}", command.title(), place + 1);
             let takes = |fields| with(command, place, fields).alarm != Some(14);
-            let value = takes(Fields { form: forms::VALUE, x: 0, y: 0, z: 1 });
+            let value = match rule.size {
+                Size::D => on_read_only(command, place).alarm.is_none(),
+                _ => takes(Fields { form: forms::VALUE, x: 0, y: 0, z: 1 }),
+            };
             let register = takes(Fields { form: forms::REGISTER, x: 1, y: 0, z: 0 });
             let role = match (value, register) {
                 (true, true) => Role::Value,
@@ -175,35 +179,39 @@ fn roles_are_what_forms_and_memory_show() {
 
 /// Whether what a command leaves in an operand depends on what was there.
 fn depends_on_itself(command: &Command, place: usize) -> bool {
-    let at = ONES + 16 * (place as u32 + 1);
+    let at = (ONES + 16 * (place as u32 + 1)) as usize;
+    let length = command.operands[place].size.bytes() as usize;
     let left = |before: u8| {
         let bytes = encoded(command, &plain_operands(command));
-        let outcome = run(&bytes, false, 0, |memory| memory[at as usize..at as usize + 4].fill(before));
-        outcome.memory[at as usize..at as usize + 4].to_vec()
+        let outcome = run(&bytes, false, 0, |memory| memory[at..at + length].fill(before));
+        outcome.memory[at..at + length].to_vec()
     };
-    let length = command.operands[place].size.bytes() as usize;
-    left(0x12)[..length] != left(0x24)[..length]
+    // Products of small floating numbers are zero, quotients of large ones infinite.
+    left(0x12) != left(0x24) || left(0x24) != left(0x42)
+}
+
+/// Runs a command with one operand in a page that may only be read.
+fn on_read_only(command: &Command, place: usize) -> Outcome {
+    let mut operands = plain_operands(command);
+    operands[place] = Fields { form: forms::ADDRESS, x: 0, y: 0, z: 0xC00 };
+    run(&encoded(command, &operands), false, 0, |memory| {
+        put(memory, 0x200 + 4 * 6, 0x8000_0006);
+        memory[0xC00..0xC10].fill(1);
+    })
 }
 
 /// A value or an update is read, an address is not, a destination is looked up for writing.
 #[test]
 fn reads_and_writes_meet_their_alarms() {
     let nowhere = Fields { form: forms::ADDRESS, x: 0, y: 0, z: MEMORY as u32 };
-    let read_only = Fields { form: forms::ADDRESS, x: 0, y: 0, z: 0xC00 };
     for command in commands().filter(|command| command.mode != Mode::Kernel) {
         for (place, rule) in command.operands.iter().enumerate() {
             let what = format!("{}, operand {}", command.title(), place + 1);
             let outcome = with(command, place, nowhere);
             let expected = if rule.role == Role::Address { None } else { Some(8) };
             assert_eq!(outcome.alarm, expected, "{what}");
-            let mut operands = plain_operands(command);
-            operands[place] = read_only;
-            let outcome = run(&encoded(command, &operands), false, 0, |memory| {
-                put(memory, 0x200 + 4 * 6, 0x8000_0006);
-                memory[0xC00..0xC10].fill(1);
-            });
             let written = matches!(rule.role, Role::Destination | Role::Update);
-            assert_eq!(outcome.alarm, written.then_some(11), "{what}");
+            assert_eq!(on_read_only(command, place).alarm, written.then_some(11), "{what}");
         }
     }
 }
@@ -247,7 +255,7 @@ fn forms_are_those_of_alarm_14() {
     for command in commands().filter(|command| command.mode != Mode::Kernel) {
         for (place, rule) in command.operands.iter().enumerate() {
             for form in [0, 1, 2, 3, 4, 5, 6, 7, 8, 9, 16, 255] {
-                for (x, y) in [(0, 0), (1, 0), (0, 1), (3, 4), (15, 0), (15, 15), (14, 0)] {
+                for (x, y) in [(0, 0), (1, 0), (0, 1), (3, 4), (13, 0), (14, 0), (15, 0), (15, 15)] {
                     for z in words {
                         let fields = Fields { form, x, y, z };
                         let outcome = with(command, place, fields);

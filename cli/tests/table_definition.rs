@@ -1,14 +1,22 @@
-//! Holds the table of commands against the machine's definition, crates/machine/specs/Code.antt, read as text.
+//! Holds the table of commands against the machine's definition, read as text: crates/machine/specs/Code.antt and, for floating
+//! numbers, FloatCode.antt beside it.
 
 mod common;
 
-use desk::table::{command, commands, Mode, Operand, Role, Size, SUMMARY};
+use desk::table::{command, commands, Command, Flow, Mode, Operand, Role, Size, SUMMARY};
 
-/// The rows of the definition, read as text.
+fn specification(file: &str) -> String {
+    std::fs::read_to_string(common::repository().join("crates/machine/specs").join(file)).expect(file)
+}
+
+fn is_floating(command: &Command) -> bool {
+    command.size.is_some_and(Size::is_floating)
+}
+
+/// The rows of the definition.
 #[test]
 fn names_and_rows_are_those_of_the_definition() {
-    let path = common::repository().join("crates/machine/specs/Code.antt");
-    let text = std::fs::read_to_string(path).expect("Code.antt");
+    let text = specification("Code.antt");
     let mut rows = 0;
     let mut bytes = Vec::new();
     for line in text.lines().map(|line| line.trim().trim_start_matches("∷ ")) {
@@ -32,15 +40,61 @@ fn names_and_rows_are_those_of_the_definition() {
         }
     }
     assert_eq!(rows, 39);
-    assert_eq!(bytes, commands().map(|command| command.byte).collect::<Vec<_>>());
+    let whole = commands().filter(|command| !is_floating(command));
+    assert_eq!(bytes, whole.map(|command| command.byte).collect::<Vec<_>>());
 }
 
-/// What the help says of a row is written as the row is: its name, s where it has sizes, and as many operands.
+/// The rows for F and D: `kinds 0x80 (gives ADD) two`. Both modes allow them, and the next command follows.
+#[test]
+fn floating_rows_are_those_of_the_definition() {
+    let text = specification("FloatCode.antt");
+    let mut bytes = Vec::new();
+    for line in text.lines().map(|line| line.trim().trim_start_matches("∷ ")) {
+        let Some((number, rest)) = line.strip_prefix("kinds 0x").and_then(|row| row.split_once(' ')) else { continue };
+        let byte = u8::from_str_radix(number, 16).expect("a byte");
+        let (title, roles) = rest.rsplit_once(' ').expect("a name and roles");
+        for (size, byte) in [Size::F, Size::D].into_iter().zip(byte..) {
+            let found = command(byte).unwrap_or_else(|| panic!("byte {byte:02X} is not in the table"));
+            let name = name(title).to_ascii_uppercase();
+            assert_eq!((found.name, found.size), (name.as_str(), Some(size)), "{line}");
+            assert_eq!((found.mode, found.flow), (Mode::Both, Flow::Next), "{line}");
+            let operands: Vec<Operand> = self::roles(&text, roles).map(|role| Operand { size, role }).collect();
+            assert_eq!(found.operands, operands.as_slice(), "{line}");
+            bytes.push(byte);
+        }
+    }
+    assert_eq!(bytes.len(), 20);
+    assert_eq!(
+        bytes,
+        commands().filter(|command| is_floating(command)).map(|command| command.byte).collect::<Vec<_>>()
+    );
+}
+
+/// The roles of a list by its name: `two = Value ∷ Update ∷ []`.
+fn roles<'a>(text: &'a str, list: &str) -> impl Iterator<Item = Role> + 'a {
+    let start = format!("{list} = ");
+    let roles =
+        text.lines().find_map(|line| line.strip_prefix(&start)).unwrap_or_else(|| panic!("{list} is not defined"));
+    roles.split('∷').map(str::trim).filter(|role| *role != "[]").map(|role| match role {
+        "Value" => Role::Value,
+        "Destination" => Role::Destination,
+        "Update" => Role::Update,
+        _ => panic!("{role}"),
+    })
+}
+
+/// What the help says of a row is written as the row is: its name, s where it has sizes or f where it has kinds, and as many
+/// operands.
 #[test]
 fn usages_are_those_of_the_rows() {
     let mut usages = Vec::new();
-    for found in commands().filter(|command| command.size.is_none_or(|size| size == Size::B)) {
-        let size = if found.size.is_some() { " s" } else { "" };
+    for found in commands() {
+        let size = match found.size {
+            None => "",
+            Some(Size::B) => " s",
+            Some(Size::F) => " f",
+            Some(_) => continue,
+        };
         let operands = ["", " a", " a,b", " a,b,c"][found.operands.len()];
         usages.push(format!("{}{size}{operands}", found.name));
     }

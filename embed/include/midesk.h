@@ -1,8 +1,9 @@
 /*
  * midesk.h: the MI desk, a small computer, for programs in C99 and C++.
  *
- * A desk runs machine code for MI in a memory that you lend it for the length of each call. Its state is an array of
- * 90 bytes that you hold; the library keeps nothing between calls, allocates nothing and has no other input or output.
+ * A desk runs machine code for MI, on whole numbers (B, H, W) and on floating numbers (F of 4 bytes, D of 8, IEEE's;
+ * the command bytes 80h to A5h), in a memory that you lend it for the length of each call. Its state is an array of 90
+ * bytes that you hold; the library keeps nothing between calls, allocates nothing and has no other input or output.
  * Any number of desks may be used at once, in any number of threads.
  *
  *     #include <stdio.h>
@@ -36,7 +37,9 @@
  *   - points points to count breakpoints that may be read, each with true or false as its armed; where count is 0, any
  *     pointer will do, a null pointer too;
  *   - these do not overlap, except that first and second may, or be the same; and no other thread uses them during the
- *     call (lists and breakpoints may be read by others).
+ *     call (lists and breakpoints may be read by others);
+ *   - the thread's floating arithmetic is set as where a program starts: it rounds to nearest, keeps subnormal numbers
+ *     (no -ffast-math when linking) and traps no exception. A call may raise its status flags (fetestexcept).
  * Nothing else: every content of memory, state, lists and scratch, every breakpoint, every length and every number is
  * answered. What cannot be used is refused by a number: 1 to 7, 17 to 20, 22 or 23. A refused call changes neither
  * state nor memory, with one exception: midesk_fresh, when refused, replaces the state by the all-zero desk stopped
@@ -65,7 +68,7 @@ extern "C" {
  * comparisons in #if too: 65536 x MAJOR + 256 x MINOR + PATCH.
  */
 #define MIDESK_VERSION_MAJOR 3
-#define MIDESK_VERSION_MINOR 1
+#define MIDESK_VERSION_MINOR 2
 #define MIDESK_VERSION_PATCH 0
 #define MIDESK_VERSION (MIDESK_VERSION_MAJOR * 65536u + MIDESK_VERSION_MINOR * 256u + MIDESK_VERSION_PATCH)
 
@@ -207,7 +210,7 @@ typedef struct midesk_breakpoint {
 #define MIDESK_ALARM_COMMAND 12u    /* the command byte is unknown */
 #define MIDESK_ALARM_MODE 13u       /* HALT or RESUME in user mode, or a system call in kernel mode */
 #define MIDESK_ALARM_OPERAND 14u    /* an operand breaks a form rule, or RESUME's block cannot be used */
-#define MIDESK_ALARM_DIVIDE 15u     /* DIV by zero */
+#define MIDESK_ALARM_DIVIDE 15u     /* DIV of B, H or W by zero */
 #define MIDESK_CAUSE_NO_FETCH 2u    /* alarm 21: a command byte, or a byte of an operand, is fetched where the map's
                                        entry has MIDESK_MAP_NO_FETCH */
 

@@ -29,7 +29,8 @@ fn fits(exact: i64, size: u32) -> bool {
     -half <= exact && exact < half
 }
 
-fn flag(bit: u32, on: bool) -> u32 {
+/// A bit, if it is on.
+pub fn flag(bit: u32, on: bool) -> u32 {
     if on {
         bit
     } else {

@@ -2,7 +2,8 @@
 
 use crate::arith;
 use crate::checks::{self, Broken};
-use crate::code::{decode, Op};
+use crate::code::{decode, FloatOp, Op};
+use crate::floats::{self, Number};
 use crate::map::{word, Real};
 use crate::notes::Note;
 use crate::operand::{operand, store, Operand, Place};
@@ -38,8 +39,8 @@ pub fn command(work: &mut Work) -> Result<Done, Alarm> {
         return Err(alarm(13, Part::Mode));
     }
     let mut operands = Vec::new();
-    for (i, (role, size)) in known.operands.iter().enumerate() {
-        operands.push(operand(work, i as u32 + 1, *role, *size)?);
+    for (i, (role, format)) in known.operands.iter().enumerate() {
+        operands.push(operand(work, i as u32 + 1, *role, *format)?);
     }
     operation(work, known.op, &operands)
 }
@@ -55,7 +56,7 @@ fn address(operand: &Operand) -> u32 {
 fn operation(work: &mut Work, op: Op, operands: &[Operand]) -> Result<Done, Alarm> {
     match op {
         Op::Halt => return Ok(Done::Halt),
-        Op::SystemCall => return Ok(Done::SystemCall(operands[0].value)),
+        Op::SystemCall => return Ok(Done::SystemCall(operands[0].value as u32)),
         Op::Resume => resume(work, address(&operands[0]))?,
         Op::Pushr => pushr(work)?,
         Op::Popr => popr(work)?,
@@ -66,6 +67,7 @@ fn operation(work: &mut Work, op: Op, operands: &[Operand]) -> Result<Done, Alar
                 work.now.registers[PC] = address(&operands[0]);
             }
         }
+        Op::Float(op) => floating(work, op, operands)?,
         _ => integer(work, op, operands)?,
     }
     Ok(Done::Next)
@@ -73,16 +75,31 @@ fn operation(work: &mut Work, op: Op, operands: &[Operand]) -> Result<Done, Alar
 
 /// A command that sets flags: its result goes to the last operand, but for CMP.
 fn integer(work: &mut Work, op: Op, operands: &[Operand]) -> Result<(), Alarm> {
-    let first = if op == Op::Movea { address(&operands[0]) } else { operands[0].value };
-    let second = operands.get(1).map_or(0, |operand| operand.value);
-    let size = operands[0].size;
+    let first = if op == Op::Movea { address(&operands[0]) } else { operands[0].value as u32 };
+    let second = operands.get(1).map_or(0, |operand| operand.value as u32);
+    let size = operands[0].format.size();
     let last = operands[operands.len() - 1];
     work.notes.add(Note::Values { first, second });
     let by_zero = Alarm { number: 15, argument: 0, part: Part::Operation };
     let (value, flags) = arith::apply(op, first, second, size).ok_or(by_zero)?;
     work.now.status = work.now.status & !FLAGS | flags;
     if op != Op::Cmp {
-        store(work, &last, value)?;
+        store(work, &last, u64::from(value))?;
+    }
+    Ok(())
+}
+
+/// A command on floating numbers (request F-6). All its operands are of one format, and its result
+/// goes to the last one, but for CMP.
+fn floating(work: &mut Work, op: FloatOp, operands: &[Operand]) -> Result<(), Alarm> {
+    let [first, second] = [&operands[0], &operands[1]].map(|operand| Number::of(operand.format, operand.value));
+    let last = operands[operands.len() - 1];
+    work.notes.add(Note::Numbers { op, first, second });
+    let (result, flags) = floats::apply(op, first, second);
+    work.now.status &= !FLAGS;
+    work.now.status |= flags;
+    if op != FloatOp::Cmp {
+        store(work, &last, result.bits())?;
     }
     Ok(())
 }
@@ -112,14 +129,14 @@ fn popr(work: &mut Work) -> Result<(), Alarm> {
 fn call(work: &mut Work, target: u32) -> Result<(), Alarm> {
     let next = work.now.registers[PC];
     work.now.registers[SP] = work.now.registers[SP].wrapping_sub(4);
-    work.write_value(work.now.registers[SP], 4, next)?;
+    work.write_word(work.now.registers[SP], next)?;
     work.now.registers[PC] = target;
     Ok(())
 }
 
 /// RET reverses it.
 fn ret(work: &mut Work) -> Result<(), Alarm> {
-    work.now.registers[PC] = work.read_value(work.now.registers[SP], 4, Part::Stack)?;
+    work.now.registers[PC] = work.read_word(work.now.registers[SP], Part::Stack)?;
     work.now.registers[SP] = work.now.registers[SP].wrapping_add(4);
     Ok(())
 }

@@ -4,10 +4,11 @@ use crate::breakpoint_cover::{step_way, Asked, Breakpoints};
 use crate::breakpoints::run_to;
 use crate::case::{make, Call, Case};
 use crate::checks::{self, Broken};
-use crate::code::Role;
+use crate::code::{Format, Role};
 use crate::desk;
 use crate::entry;
 use crate::fetch_table::{Before, Fetches};
+use crate::float_table::Floats;
 use crate::joint_table::Joint;
 use crate::list_table::Lists;
 use crate::notes::{Note, Notes};
@@ -26,10 +27,10 @@ pub const FINE: u32 = 0;
 pub struct Cover {
     /// Command byte (256: it couldn't be fetched), kernel mode, outcome.
     pub commands: Counts<(u16, bool, u32)>,
-    /// Form, role, L, kernel mode, for operands that keep the rules.
-    pub forms: Counts<(u8, Role, u32, bool)>,
-    /// Broken rule, role, L, kernel mode.
-    pub rules: Counts<(&'static str, Role, u32, bool)>,
+    /// Form, role, format, kernel mode, for operands that keep the rules.
+    pub forms: Counts<(u8, Role, Format, bool)>,
+    /// Broken rule, role, format, kernel mode.
+    pub rules: Counts<(&'static str, Role, Format, bool)>,
     /// Form and whether x (true) or y (false) is 15.
     pub r15: Counts<(u8, bool)>,
     /// Number, part, kernel mode.
@@ -48,6 +49,7 @@ pub struct Cover {
     pub kept: Counts<(u8, u32)>,
     pub shifts: Shifts,
     pub fetches: Fetches,
+    pub floats: Floats,
     pub resumes: Counts<&'static str>,
     /// Level and what became of it.
     pub levels: Counts<(u32, &'static str)>,
@@ -96,6 +98,7 @@ impl Cover {
         let answer = desk::step_noting(&mut notes, before, memory);
         self.stepped(before, &answer.state, &answer.event, notes.list());
         self.fetches.stepped(before, &seen, &answer.state, notes.list(), memory);
+        self.floats.stepped(before, notes.list());
         (answer.state, answer.event, notes)
     }
 
@@ -131,10 +134,10 @@ impl Cover {
         for note in notes {
             match note {
                 Note::Command(fetched) => byte = u16::from(*fetched),
-                Note::Operand { form, x, y, role, size, broken, .. } => match broken {
-                    Some(rule) => add(&mut self.rules, (rule, *role, *size, kernel)),
+                Note::Operand { form, x, y, role, format, broken } => match broken {
+                    Some(rule) => add(&mut self.rules, (rule, *role, *format, kernel)),
                     None => {
-                        add(&mut self.forms, (*form, *role, *size, kernel));
+                        add(&mut self.forms, (*form, *role, *format, kernel));
                         if *x == 15 {
                             add(&mut self.r15, (*form, true));
                         }
@@ -144,6 +147,7 @@ impl Cover {
                     }
                 },
                 Note::Values { first, second } => values = (*first, *second),
+                Note::Numbers { .. } => {}
                 Note::Alarm { number, part } => {
                     outcome = *number;
                     add(&mut self.alarms, (*number, *part, kernel));
@@ -175,7 +179,7 @@ impl Cover {
                 add(&mut self.jumps, (byte, old, taken));
             }
             0x00..=0x03 | 0x79 | 0x7A if *event != Event::Stop(16) => add(&mut self.kept, (byte, old)),
-            0x10..=0x66 => add(&mut self.flags, (byte, new)),
+            0x10..=0x66 | 0x80..=0xA5 => add(&mut self.flags, (byte, new)),
             _ => {}
         }
     }

@@ -3,6 +3,8 @@
 use crate::arith;
 use crate::code::{decode, Op};
 use crate::cover::Cover;
+use crate::floats::{self, Number};
+use crate::gen::float_values::edges;
 use crate::state::*;
 use crate::table::Table;
 
@@ -35,9 +37,16 @@ pub fn levels(cover: &Cover, table: &mut Table) {
     println!("  impossible: no level is above 15\n");
 }
 
-/// Flags that a command can give; found for B from all pairs of values.
+/// Flags that a command can give; found for B from all pairs of values, for floating numbers from
+/// all pairs of the edges.
 fn possible(byte: u8) -> Vec<u32> {
     let known = decode(byte).unwrap();
+    if let Op::Float(op) = known.op {
+        let format = known.operands[0].1;
+        let edges: Vec<Number> = edges(format).into_iter().map(|bits| Number::of(format, bits)).collect();
+        let pairs = edges.iter().flat_map(|first| edges.iter().map(move |second| (*first, *second)));
+        return pairs.map(|(first, second)| floats::apply(op, first, second).1).collect();
+    }
     match known.op {
         Op::Sh => return vec![0, N, Z, V, N | V, Z | V],
         Op::Rot | Op::Conv | Op::Movea => return vec![0, N, Z],
@@ -59,7 +68,7 @@ fn possible(byte: u8) -> Vec<u32> {
 
 pub fn flags(cover: &Cover, table: &mut Table) {
     println!("Flag outcomes (0 to 15 is N Z V C) of each command that sets flags");
-    for byte in (0x10..=0x66u8).filter(|b| decode(*b).is_some()) {
+    for byte in (0x10..=0x66u8).chain(0x80..=0xA5).filter(|b| decode(*b).is_some()) {
         let wanted = possible(byte);
         let mut line = format!("  {byte:02X}h");
         for flags in 0..16 {
@@ -70,7 +79,11 @@ pub fn flags(cover: &Cover, table: &mut Table) {
         println!("{line}");
     }
     println!(
-        "  impossible: found by trying all pairs of B values; what B, H and W share doesn't depend on the width\n"
+        "  impossible: found by trying all pairs of B values, as what B, H and W share doesn't depend on the width;"
+    );
+    println!(
+        "  for floating numbers by trying all pairs of the edges (gen/float_values.rs): C is clear, N and Z exclude \
+         each other,\n  Z and V too; CMP sets no two of them\n"
     );
     println!("Jumps by the flags before, with the number of cases taken (+) or not");
     for byte in 0x70..=0x78u8 {

@@ -1,6 +1,7 @@
 //! Remarks of the model for the coverage table; they change nothing.
 
-use crate::code::Role;
+use crate::code::{FloatOp, Format, Role};
+use crate::floats::Number;
 use crate::map::Reason;
 use crate::work::Part;
 
@@ -8,19 +9,25 @@ use crate::work::Part;
 pub enum Note {
     /// A command byte was fetched.
     Command(u8),
-    /// An operand was fetched: its fields, role, L, and the broken rule if any.
+    /// An operand was fetched: its fields, role, format, and the broken rule if any.
     Operand {
         form: u8,
         x: u8,
         y: u8,
         role: Role,
-        size: u32,
+        format: Format,
         broken: Option<&'static str>,
     },
     /// The operation of a command that sets flags gets these values.
     Values {
         first: u32,
         second: u32,
+    },
+    /// The operation of a command on floating numbers gets these; MOVE's second one means nothing.
+    Numbers {
+        op: FloatOp,
+        first: Number,
+        second: Number,
     },
     Alarm {
         number: u32,

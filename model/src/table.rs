@@ -2,11 +2,11 @@
 
 pub use crate::cells::Table;
 
-use crate::code::{decode, Op, Role};
+use crate::code::{decode, Format, Op, Role};
 use crate::cover::{Cover, FINE};
 use crate::work::Part;
 
-const ROLES: [(&str, Role); 4] = [
+pub const ROLES: [(&str, Role); 4] = [
     ("value", Role::Value),
     ("address", Role::Address),
     ("destination", Role::Destination),
@@ -16,7 +16,7 @@ const ROLES: [(&str, Role); 4] = [
 /// Outcomes of a command: none of the alarms, or one of them.
 const OUTCOMES: [u32; 10] = [FINE, 8, 9, 10, 11, 12, 13, 14, 15, 21];
 
-fn mode_name(kernel: bool) -> &'static str {
+pub fn mode_name(kernel: bool) -> &'static str {
     if kernel {
         "kernel"
     } else {
@@ -97,27 +97,29 @@ pub fn commands(cover: &Cover, table: &mut Table) {
 }
 
 pub fn forms(cover: &Cover, table: &mut Table) {
-    println!("Forms by role, L and mode: operands that keep the rules");
+    println!("Forms by role, format and mode: operands that keep the rules");
     for (name, role) in ROLES {
-        for size in [1, 2, 4] {
+        for format in Format::ALL {
             for kernel in [false, true] {
-                let mut line = format!("  {name:16} {size} {:7}", mode_name(kernel));
+                let mut line = format!("  {name:16} {format:?} {:7}", mode_name(kernel));
                 for form in 0..=8u8 {
-                    let wanted = (role != Role::Address || size == 4)
+                    let wanted = (role != Role::Address || format == Format::W)
                         && match form {
-                            1 => role == Role::Value,
+                            1 => role == Role::Value && format != Format::D,
                             2 => role != Role::Address,
                             _ => true,
                         };
-                    let label = format!("form {form} as {name} of {size} in {} mode", mode_name(kernel));
-                    let cell = table.cell(&cover.forms, (form, role, size, kernel), wanted, label);
+                    let label = format!("form {form} as {name} of {format:?} in {} mode", mode_name(kernel));
+                    let cell = table.cell(&cover.forms, (form, role, format, kernel), wanted, label);
                     line += &format!("{cell:>8}");
                 }
                 println!("{line}");
             }
         }
     }
-    println!("  impossible: form 1 is no destination; forms 1 and 2 have no address; an address operand's L is 4\n");
+    println!(
+        "  impossible: form 1 is no destination and no D; forms 1 and 2 have no address; an address operand is W\n"
+    );
     println!("R15 as x or y");
     for form in 2..=8u8 {
         let x = table.cell(&cover.r15, (form, true), form < 7, format!("x = 15 in form {form}"));
@@ -128,16 +130,20 @@ pub fn forms(cover: &Cover, table: &mut Table) {
 }
 
 pub fn rules(cover: &Cover, table: &mut Table) {
-    println!("Broken form rules by role and L (user mode, kernel mode)");
+    println!("Broken form rules by role and format (user mode, kernel mode)");
     let list = [
         "0: x",
         "0: y",
         "1: destination",
         "1: no address",
+        "1: D",
         "1: x",
         "1: y",
         "1: other bytes",
         "2: no address",
+        "2: F in R15",
+        "2: D in R14",
+        "2: D in R15",
         "2: y",
         "2: z",
         "3: y",
@@ -150,29 +156,30 @@ pub fn rules(cover: &Cover, table: &mut Table) {
     for rule in list {
         let mut line = format!("  {rule:16}");
         for (name, role) in ROLES {
-            for size in [1, 2, 4] {
+            for format in Format::ALL {
                 let written = matches!(role, Role::Destination | Role::Both);
-                let wanted = (role != Role::Address || size == 4)
+                let wanted = (role != Role::Address || format == Format::W)
                     && match rule {
                         "1: destination" => written,
                         "1: no address" | "2: no address" => role == Role::Address,
-                        "1: x" | "1: y" => role == Role::Value,
-                        "1: other bytes" => role == Role::Value && size < 4,
+                        "1: D" => role == Role::Value && format == Format::D,
+                        "1: x" | "1: y" => role == Role::Value && format != Format::D,
+                        "1: other bytes" => role == Role::Value && format.size() < 4,
+                        "2: F in R15" => format == Format::F,
+                        "2: D in R14" | "2: D in R15" => format == Format::D,
                         "2: y" | "2: z" => role != Role::Address,
                         _ => true,
                     };
                 for kernel in [false, true] {
-                    let label = format!("rule {rule} as {name} of {size} in {} mode", mode_name(kernel));
-                    let cell = table.cell(&cover.rules, (rule, role, size, kernel), wanted, label);
+                    let label = format!("rule {rule} as {name} of {format:?} in {} mode", mode_name(kernel));
+                    let cell = table.cell(&cover.rules, (rule, role, format, kernel), wanted, label);
                     line += &format!("{cell:>4}");
                 }
             }
         }
         println!("{line}");
     }
-    println!(
-        "  columns: value 1 2 4, address 1 2 4, destination 1 2 4, read and written 1 2 4, each user and kernel\n"
-    );
+    println!("  columns: value, address, destination, read and written, for each B H W F D, each user and kernel\n");
 }
 
 pub fn alarms(cover: &Cover, table: &mut Table) {

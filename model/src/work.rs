@@ -71,9 +71,13 @@ impl<'a> Work<'a> {
     }
 
     /// A value of `size` bytes, highest byte first.
-    pub fn read_value(&mut self, address: u32, size: u32, part: Part) -> Result<u32, Alarm> {
+    pub fn read_value(&mut self, address: u32, size: u32, part: Part) -> Result<u64, Alarm> {
         let bytes = self.read(address, size, part)?;
-        Ok(bytes.iter().fold(0, |value, byte| value << 8 | u32::from(*byte)))
+        Ok(bytes.iter().fold(0, |value, byte| value << 8 | u64::from(*byte)))
+    }
+
+    pub fn read_word(&mut self, address: u32, part: Part) -> Result<u32, Alarm> {
+        Ok(self.read_value(address, 4, part)? as u32)
     }
 
     /// Collects the writing of bytes upward from `address`, each looked up by itself.
@@ -88,9 +92,13 @@ impl<'a> Work<'a> {
     }
 
     /// A value of `size` bytes, highest byte first.
-    pub fn write_value(&mut self, address: u32, size: u32, value: u32) -> Result<(), Alarm> {
+    pub fn write_value(&mut self, address: u32, size: u32, value: u64) -> Result<(), Alarm> {
         let bytes = value.to_be_bytes();
-        self.write(address, &bytes[4 - size as usize..])
+        self.write(address, &bytes[8 - size as usize..])
+    }
+
+    pub fn write_word(&mut self, address: u32, value: u32) -> Result<(), Alarm> {
+        self.write_value(address, 4, u64::from(value))
     }
 
     fn note_lookup(&mut self, at: u32, reason: Reason, part: Part, number: u32) {

@@ -10,13 +10,14 @@ pub const Z: u32 = 4;
 pub const V: u32 = 2;
 pub const C: u32 = 1;
 
-/// The operations of two values: the byte of their first command.
+/// The operations of two values: the byte of their first command. DIV is there for floating numbers only.
 pub const OR: u8 = 0x28;
 pub const ANDNOT: u8 = 0x30;
 pub const XOR: u8 = 0x38;
 pub const ADD: u8 = 0x40;
 pub const SUB: u8 = 0x48;
 pub const MULT: u8 = 0x50;
+pub const DIV: u8 = 0x58;
 pub const SH: u8 = 0x60;
 
 const fn shift<const SIZE: usize>() -> usize {
@@ -48,7 +49,7 @@ impl Outcome {
 }
 
 #[inline(always)]
-fn set_flags(desk: &mut State, n: bool, z: bool, v: bool, c: bool) {
+pub fn set_flags(desk: &mut State, n: bool, z: bool, v: bool, c: bool) {
     let flags = u32::from(n) << 3 | u32::from(z) << 2 | u32::from(v) << 1 | u32::from(c);
     desk.status = desk.status & !15 | flags;
 }

@@ -1,10 +1,10 @@
 //! One command: byte, mode, operands, operation, write, flags.
 
 use super::arithmetic::{compare, operate, Outcome, C, N, V, Z};
-use super::arithmetic::{ADD, ANDNOT, MULT, OR, SH, SUB, XOR};
+use super::arithmetic::{ADD, ANDNOT, DIV, MULT, OR, SH, SUB, XOR};
 use super::memory::{byte, FETCH};
 use super::operand::{address, target, value};
-use super::{stack, Alarm};
+use super::{floats, stack, Alarm};
 use crate::state::{State, KERNEL};
 
 const HALT: u8 = 0x00;
@@ -19,6 +19,7 @@ pub fn covers(byte: u8) -> bool {
     match byte {
         HALT | PUSHR | POPR | 0x10..=0x12 | SH | 0x64..=0x66 | 0x70..=0x78 | CALL | RET => true,
         0x28..=0x57 => byte % 4 != 3,
+        0x80..=0xA5 => byte % 4 < 2,
         _ => false,
     }
 }
@@ -137,6 +138,26 @@ pub fn command<const ONE_LOOKUP: bool>(memory: &mut [u8], desk: &mut State) -> R
         }
         CALL => stack::call::<ONE_LOOKUP>(memory, desk),
         RET => stack::ret::<ONE_LOOKUP>(memory, desk),
+        0x80 => floats::two::<ONE_LOOKUP, 4, ADD>(memory, desk),
+        0x81 => floats::two::<ONE_LOOKUP, 8, ADD>(memory, desk),
+        0x84 => floats::three::<ONE_LOOKUP, 4, ADD>(memory, desk),
+        0x85 => floats::three::<ONE_LOOKUP, 8, ADD>(memory, desk),
+        0x88 => floats::two::<ONE_LOOKUP, 4, SUB>(memory, desk),
+        0x89 => floats::two::<ONE_LOOKUP, 8, SUB>(memory, desk),
+        0x8C => floats::three::<ONE_LOOKUP, 4, SUB>(memory, desk),
+        0x8D => floats::three::<ONE_LOOKUP, 8, SUB>(memory, desk),
+        0x90 => floats::two::<ONE_LOOKUP, 4, MULT>(memory, desk),
+        0x91 => floats::two::<ONE_LOOKUP, 8, MULT>(memory, desk),
+        0x94 => floats::three::<ONE_LOOKUP, 4, MULT>(memory, desk),
+        0x95 => floats::three::<ONE_LOOKUP, 8, MULT>(memory, desk),
+        0x98 => floats::two::<ONE_LOOKUP, 4, DIV>(memory, desk),
+        0x99 => floats::two::<ONE_LOOKUP, 8, DIV>(memory, desk),
+        0x9C => floats::three::<ONE_LOOKUP, 4, DIV>(memory, desk),
+        0x9D => floats::three::<ONE_LOOKUP, 8, DIV>(memory, desk),
+        0xA0 => floats::copy::<ONE_LOOKUP, 4>(memory, desk),
+        0xA1 => floats::copy::<ONE_LOOKUP, 8>(memory, desk),
+        0xA4 => floats::cmp::<ONE_LOOKUP, 4>(memory, desk),
+        0xA5 => floats::cmp::<ONE_LOOKUP, 8>(memory, desk),
         _ => Err(Alarm(12, u32::from(code))),
     }
 }

@@ -53,6 +53,7 @@ fn in_page<const COUNT: usize>(address: u32) -> bool {
     address % PAGE <= PAGE - COUNT as u32
 }
 
+#[inline(always)]
 pub fn byte<const WHY: u8>(memory: &[u8], desk: &State, address: u32) -> Result<u8, Alarm> {
     Ok(memory[lookup::<WHY>(memory, desk, address)?])
 }

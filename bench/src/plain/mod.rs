@@ -7,6 +7,7 @@
 //!
 //! Covered, with the same results as the proved desk:
 //! - MOVE, CMP, and OR, ANDNOT, XOR, ADD, SUB, MULT with two and three operands, in B, H and W; SH;
+//! - the floating commands 80h to A5h, F and D (`floats.rs`);
 //! - the jumps 70h to 78h, CALL, RET, PUSHR, POPR and HALT;
 //! - the nine forms with their rules (14), R15 inside an operand, flags;
 //! - the map and alarms 8 to 13 and 21, the undoing of a command that alarms;
@@ -22,6 +23,7 @@ mod arithmetic;
 mod breakpoints;
 mod command;
 mod entry;
+mod floats;
 mod load;
 mod load_both;
 mod memory;

@@ -17,9 +17,9 @@ const fn mask<const SIZE: usize>() -> u32 {
     u32::MAX >> (32 - 8 * SIZE)
 }
 
-/// The operand of `SIZE` bytes that R15 names, the `number`th of its command; R15 goes past it.
+/// The operand of `SIZE` bytes, 1, 2, 4 or 8, that R15 names, the `number`th of its command; R15 goes past it.
 #[inline(always)]
-fn place<const ONE_LOOKUP: bool, const SIZE: usize>(
+pub fn place<const ONE_LOOKUP: bool, const SIZE: usize>(
     memory: &[u8],
     desk: &mut State,
     number: u32,
@@ -34,7 +34,7 @@ fn place<const ONE_LOOKUP: bool, const SIZE: usize>(
     let indirect = |desk: &State| memory::value::<ONE_LOOKUP, READ, 4>(memory, desk, sum(desk));
     Ok(match form {
         0 if pair == 0 => Place::At(z),
-        1 if pair == 0 && z <= mask::<SIZE>() => Place::Value(z),
+        1 if pair == 0 && SIZE <= 4 && z <= mask::<SIZE>() => Place::Value(z),
         2 if y == 0 && z == 0 => Place::Register(x),
         3 if y == 0 => Place::At(sum(desk)),
         4 => Place::At(sum(desk).wrapping_add(index(desk))),

@@ -2,6 +2,7 @@
 
 use super::cursor::{is_command, is_reserved, Cursor};
 use super::errors::{fault, Fault};
+use super::floats;
 use super::lexer;
 use super::syntax::{Expression, Kind, Written};
 use crate::table::{self, Command, Operand, Role, Size};
@@ -12,10 +13,9 @@ pub fn command(cursor: &mut Cursor) -> Result<Kind, Fault> {
     let column = cursor.column();
     let name = name(cursor)?;
     let same_name: Vec<&'static Command> = table::commands().filter(|command| command.name == name).collect();
-    let sized = same_name.iter().any(|command| command.size.is_some());
-    let size = if sized { Some(size(cursor, &name)?) } else { None };
+    let size = size(cursor, &name, &same_name)?;
     let candidates: Vec<&'static Command> = same_name.into_iter().filter(|command| command.size == size).collect();
-    let operands = operands(cursor)?;
+    let operands = operands(cursor, size)?;
     let Some(command) = candidates.iter().find(|command| command.operands.len() == operands.len()) else {
         let counts = candidates.iter().map(|command| command.operands.len().to_string());
         let title = candidates.first().map_or(name, |command| command.title());
@@ -70,23 +70,28 @@ fn meant(word: &str) -> String {
     }
 }
 
-fn size(cursor: &mut Cursor, name: &str) -> Result<Size, Fault> {
-    match cursor.peek_word().and_then(Size::of_letter) {
-        Some(size) => {
+/// One of the sizes of the commands with a name, if they have some.
+fn size(cursor: &mut Cursor, name: &str, commands: &[&Command]) -> Result<Option<Size>, Fault> {
+    let has = |size: &Size| commands.iter().any(|command| command.size == Some(*size));
+    let letters: Vec<String> =
+        Size::ALL.iter().filter(|size| has(size)).map(|size| size.letter().to_string()).collect();
+    match cursor.peek_word().and_then(Size::of_letter).filter(has) {
+        _ if letters.is_empty() => Ok(None),
+        None => cursor.expected(&format!("the size of {name} ({})", lists::or(&letters))),
+        found => {
             cursor.advance();
-            Ok(size)
+            Ok(found)
         }
-        None => cursor.expected(&format!("the size of {name} (B, H or W)")),
     }
 }
 
-fn operands(cursor: &mut Cursor) -> Result<Vec<Written>, Fault> {
+fn operands(cursor: &mut Cursor, size: Option<Size>) -> Result<Vec<Written>, Fault> {
     let mut found = Vec::new();
     if cursor.is_done() {
         return Ok(found);
     }
     loop {
-        found.push(operand(cursor)?);
+        found.push(operand(cursor, size)?);
         if !cursor.take_mark(',') {
             break;
         }
@@ -95,12 +100,16 @@ fn operands(cursor: &mut Cursor) -> Result<Vec<Written>, Fault> {
     Ok(found)
 }
 
-/// An operand in one of the nine forms.
-pub fn operand(cursor: &mut Cursor) -> Result<Written, Fault> {
+/// An operand in one of the nine forms; the value of a command with F or D is a floating number.
+fn operand(cursor: &mut Cursor, size: Option<Size>) -> Result<Written, Fault> {
     let column = cursor.column();
     let written = |form, x, y, z| Written { form, x, y, z, column };
     if cursor.take_word("I") {
-        return Ok(written(forms::VALUE, 0, 0, Some(cursor.expression()?)));
+        let value = match size.filter(|size| size.is_floating()) {
+            Some(_) => floats::constant(cursor)?,
+            None => cursor.expression()?,
+        };
+        return Ok(written(forms::VALUE, 0, 0, Some(value)));
     }
     if cursor.peek_word().and_then(super::cursor::register).is_some() {
         return Ok(written(forms::REGISTER, cursor.register()?, 0, None));
@@ -124,9 +133,9 @@ pub fn operand(cursor: &mut Cursor) -> Result<Written, Fault> {
 }
 
 fn begins_expression(cursor: &Cursor) -> bool {
-    use super::lexer::Token::{Mark, Number, Text, Word};
+    use super::lexer::Token::{Decimal, Long, Mark, Number, Text, Word};
     match cursor.peek() {
-        Some(Number(_) | Text(_) | Mark('+' | '-')) => true,
+        Some(Decimal(_) | Number(_) | Long(_) | Text(_) | Mark('+' | '-')) => true,
         Some(Word(word)) => !super::cursor::is_reserved(word),
         _ => false,
     }
@@ -204,12 +213,27 @@ fn check(operand: &Written, rule: Operand, place: usize, title: &str) -> Result<
         return fault(operand.column, "R15 cannot be stepped: -!Rx and !Rx+ take R0 to R14");
     }
     if forms::role_allows(operand.form, rule.role) {
-        return Ok(());
+        return check_size(operand, rule.size, place, title);
     }
     let sentence = match (rule.role, operand.form) {
         (Role::Address, forms::VALUE) => "is an address: leave out I",
         (Role::Address, _) => "is an address, and a register has none: write !Rx for the address in Rx",
         _ => "is written to, and a value (I ..) cannot be",
+    };
+    fault(operand.column, format!("operand {place} of {title} {sentence}"))
+}
+
+/// Values and registers that a size does not have.
+fn check_size(operand: &Written, size: Size, place: usize, title: &str) -> Result<(), Fault> {
+    if forms::size_allows(operand.form, operand.x, size) {
+        return Ok(());
+    }
+    let sentence = match (operand.form, size) {
+        (forms::VALUE, _) => {
+            "cannot be a value (I ..), which has no room for a D: write the name of one in memory, as in name: DD D 1.5"
+        }
+        (_, Size::D) => "takes two registers, and SP and R15 are none for it: expected R0 to R13, the first of the two",
+        _ => "is a floating number, which R15 does not hold: expected R0 to R14",
     };
     fault(operand.column, format!("operand {place} of {title} {sentence}"))
 }

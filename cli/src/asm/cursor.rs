@@ -1,8 +1,9 @@
 //! A statement's lexemes, read from left to right; registers, numbers and sums.
 
 use super::errors::{fault, Fault};
-use super::lexer::{Lexeme, Token};
+use super::lexer::{no_number, shown, Lexeme, Token};
 use super::syntax::{Expression, Item, Term};
+use crate::{floats, notation};
 
 pub struct Cursor<'a> {
     lexemes: &'a [Lexeme],
@@ -122,6 +123,12 @@ impl<'a> Cursor<'a> {
         let column = self.column();
         let item = match self.peek() {
             Some(Token::Number(number)) => Item::Number(*number),
+            Some(Token::Long(number)) => return fault(column, no_number(&format!("{number:X}h"))),
+            Some(Token::Decimal(text)) => match notation::number(text) {
+                Some(number) => Item::Number(number),
+                None if floats::is_whole(text) => return fault(column, no_number(text)),
+                None => return fault(column, format!("{} is a floating number, which only DD F, DD D and the value of a command with F take, as in ADD F I 1.5,R0", shown(text))),
+            },
             Some(Token::Word(word)) if !is_reserved(word) => Item::Name(word.clone()),
             Some(Token::Text(bytes)) if bytes.len() <= 4 => {
                 Item::Number(bytes.iter().fold(0, |n, b| n << 8 | u32::from(*b)))

@@ -2,6 +2,7 @@
 
 use super::cursor::Cursor;
 use super::errors::{fault, Fault};
+use super::floats;
 use super::lexer::Token;
 use super::syntax::{Datum, Kind};
 use crate::table::Size;
@@ -40,7 +41,13 @@ fn datum(cursor: &mut Cursor, size: Option<Size>, depth: usize) -> Result<Datum,
             return Ok(Datum::Text(bytes.clone()));
         }
     }
-    Ok(Datum::Value { size, expression: cursor.expression()? })
+    // Behind F and D too a name is an address.
+    let is_name = matches!(cursor.peek(), Some(Token::Word(_)));
+    let expression = match size.filter(|size| size.is_floating() && !is_name) {
+        Some(_) => floats::constant(cursor)?,
+        None => cursor.expression()?,
+    };
+    Ok(Datum::Value { size, expression })
 }
 
 fn repeated(cursor: &mut Cursor, size: Option<Size>, depth: usize) -> Result<Datum, Fault> {

@@ -2,6 +2,7 @@
 
 use super::blocks;
 use super::errors::{fault, Errors, Fault};
+use super::floats;
 use super::layout::{Layout, Position};
 use super::sizes;
 use super::symbols::Symbols;
@@ -76,15 +77,21 @@ impl Context<'_> {
     fn operand(&self, operand: &Written, size: Size) -> Result<Fields, Fault> {
         let z = match &operand.z {
             None => 0,
-            Some(z) => {
-                let value = self.symbols.value(z, self.position.segment)?;
-                match operand.form {
-                    forms::VALUE => value.fitting(8 * size.bytes())?,
-                    _ => self.place(z, self.position.is_virtual)?,
-                }
-            }
+            Some(z) if operand.form == forms::VALUE => self.number(z, size)? as u32,
+            Some(z) => self.place(z, self.position.is_virtual)?,
         };
         Ok(Fields { form: operand.form, x: operand.x, y: operand.y, z })
+    }
+
+    /// A number of a size, whole or floating.
+    fn number(&self, expression: &Expression, size: Size) -> Result<u64, Fault> {
+        match size.is_floating() {
+            true => floats::bits(expression, size, self.symbols),
+            false => {
+                let value = self.symbols.value(expression, self.position.segment)?;
+                value.fitting(8 * size.bytes()).map(u64::from)
+            }
+        }
     }
 
     fn data(&self, data: &[Datum]) -> Result<Vec<u8>, Fault> {
@@ -104,9 +111,8 @@ impl Context<'_> {
 
     fn datum(&self, size: Option<Size>, expression: &Expression) -> Result<Vec<u8>, Fault> {
         let size = sizes::value_size(size, expression, self.symbols, self.position.segment)?;
-        let number = self.symbols.value(expression, self.position.segment)?.fitting(8 * size.bytes())?;
-        let bytes = number.to_be_bytes();
-        Ok(bytes.get(4 - size.bytes() as usize..).unwrap_or(&[]).to_vec())
+        let bytes = self.number(expression, size)?.to_be_bytes();
+        Ok(bytes.get(8 - size.bytes() as usize..).unwrap_or(&[]).to_vec())
     }
 }
 

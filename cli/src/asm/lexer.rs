@@ -1,13 +1,18 @@
 //! A line of a source into words, numbers, strings and marks.
 
 use super::errors::{fault, Fault};
-use crate::notation;
+use crate::{floats, notation};
 
 #[derive(Clone, PartialEq, Eq, Debug)]
 pub enum Token {
     /// A name, a command, or a number such as FFFh that begins with a letter; which one, its use decides.
     Word(String),
+    /// A decimal number, whole or floating, as it is written.
+    Decimal(String),
+    /// A hexadecimal or a binary number.
     Number(u32),
+    /// Such a number that has more than 32 bits, as a D may have.
+    Long(u64),
     /// The bytes of a string.
     Text(Vec<u8>),
     Mark(char),
@@ -85,19 +90,33 @@ impl Scanner {
         self.characters.get(start..self.at).unwrap_or(&[]).iter().collect()
     }
 
+    /// `15`, `410h`, `0x410`, and floating numbers: `1.5`, `15E-1`.
     fn number(&mut self) -> Result<Token, Fault> {
         let column = self.at + 1;
-        let text = self.run_of(|c| c.is_ascii_alphanumeric() || c == '_');
-        match notation::number(&text) {
-            Some(number) => Ok(Token::Number(number)),
-            None => fault(column, format!("'{}' is no number: expected decimal digits, or hexadecimal ones with h at the end, up to FFFFFFFFh", shown(&text))),
+        let mut text = self.run_of(in_word);
+        if floats::is_whole(&text) && self.peek() == Some('.') {
+            self.at += 1;
+            text = format!("{text}.{}", self.run_of(in_word));
+        }
+        let exponent = text.ends_with(['E', 'e']) && floats::is_decimal(&format!("{text}0"));
+        let digits = self.characters.get(self.at + 1).is_some_and(char::is_ascii_digit);
+        if let Some(sign) = self.peek().filter(|c| exponent && digits && "+-".contains(*c)) {
+            self.at += 1;
+            text = format!("{text}{sign}{}", self.run_of(in_word));
+        }
+        if floats::is_decimal(&text) {
+            return Ok(Token::Decimal(text));
+        }
+        match notation::long(&text) {
+            Some(number) => Ok(of_digits(number)),
+            None if text.contains('.') => fault(column, format!("'{}' is no number: a floating number is written 1.5 or 1.5E-3, with digits on both sides of the point and behind E", shown(&text))),
+            None => fault(column, no_number(&text)),
         }
     }
 
     /// A word, or H'410' and B'1010'.
     fn word(&mut self) -> Result<Token, Fault> {
         let column = self.at + 1;
-        let in_word = |c: char| c.is_ascii_alphanumeric() || c == '_';
         let mut text = self.run_of(in_word);
         if self.peek() == Some('\'') && (text == "H" || text == "B") {
             let radix = if text == "H" { 16 } else { 2 };
@@ -112,11 +131,11 @@ impl Scanner {
 
     fn quoted_number(&mut self, column: usize, radix: u32) -> Result<Token, Fault> {
         let digits: String = self.string()?.into_iter().map(char::from).collect();
-        let number = digits.chars().all(|c| c.is_digit(radix)).then(|| u32::from_str_radix(&digits, radix).ok());
+        let number = digits.chars().all(|c| c.is_digit(radix)).then(|| u64::from_str_radix(&digits, radix).ok());
         match number.flatten() {
-            Some(number) => Ok(Token::Number(number)),
-            None if radix == 16 => fault(column, "expected H'..' with one to eight hexadecimal digits"),
-            None => fault(column, "expected B'..' with up to 32 digits 0 and 1"),
+            Some(number) => Ok(of_digits(number)),
+            None if radix == 16 => fault(column, "expected H'..' with one to eight hexadecimal digits, for D up to 16"),
+            None => fault(column, "expected B'..' with up to 32 digits 0 and 1, for D up to 64"),
         }
     }
 
@@ -145,6 +164,22 @@ impl Scanner {
     }
 }
 
+fn in_word(c: char) -> bool {
+    c.is_ascii_alphanumeric() || c == '_'
+}
+
+fn of_digits(number: u64) -> Token {
+    u32::try_from(number).map_or(Token::Long(number), Token::Number)
+}
+
+/// What is said of digits that are no whole number of up to 32 bits.
+pub fn no_number(text: &str) -> String {
+    format!(
+        "'{}' is no number: expected decimal digits, or hexadecimal ones with h at the end, up to FFFFFFFFh",
+        shown(text)
+    )
+}
+
 /// What other notations write with a character, and MI's writes otherwise.
 fn hint(character: char) -> &'static str {
     match character {
@@ -152,6 +187,7 @@ fn hint(character: char) -> &'static str {
         '$' => "; a hexadecimal number is written 410h",
         '"' => "; a string stands between single quotes",
         '[' | ']' | '@' => "; what is at the address in R1 is written !R1",
+        '.' => "; a floating number has digits before its point: 0.5",
         '|' => "; before a bar only the columns of a listing may stand",
         _ => "",
     }
@@ -169,7 +205,9 @@ impl Token {
     pub fn shown(&self) -> String {
         match self {
             Token::Word(word) => format!("'{}'", shown(word)),
+            Token::Decimal(text) => format!("the number {}", shown(text)),
             Token::Number(number) => format!("the number {}", notation::hexadecimal(*number)),
+            Token::Long(number) => format!("the number {number:X}h"),
             Token::Text(_) => "a string".to_string(),
             Token::Mark(mark) => format!("'{mark}'"),
         }

@@ -11,6 +11,7 @@ mod directives;
 mod emit;
 mod errors;
 pub mod fields;
+mod floats;
 mod layout;
 mod lexer;
 mod macros;
@@ -23,7 +24,7 @@ mod symbols;
 mod syntax;
 mod verb;
 
-pub use cursor::is_reserved;
+pub use cursor::{is_reserved, register};
 pub use result::Assembled;
 pub use verb::main;
 

@@ -161,8 +161,8 @@ fn maybe_remark(fault: Fault, part: &[Lexeme]) -> Fault {
 
 fn width(token: &Token) -> usize {
     match token {
-        Token::Word(word) => word.chars().count(),
+        Token::Word(text) | Token::Decimal(text) => text.chars().count(),
         Token::Text(bytes) => bytes.len() + 2,
-        Token::Mark(_) | Token::Number(_) => 1,
+        Token::Mark(_) | Token::Number(_) | Token::Long(_) => 1,
     }
 }

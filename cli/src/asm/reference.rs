@@ -11,6 +11,10 @@ pub const LINES: &[(&str, &str)] = &[
     ("410h, 0x410, H'410'", "hexadecimal; FFFh is a number where no label is called so"),
     ("1040, -1, B'101', 'A'", "decimal, binary, a character"),
     ("list+4, end-list", "sums of numbers and names"),
+    (
+        "1.5, -2E10, 7F800000h",
+        "a floating number, behind F and D alone: decimal, which becomes the nearest one, or its bits in hexadecimal, as infinities and NaNs need",
+    ),
 ];
 
 pub const DIRECTIVES: &[(&str, &str)] = &[
@@ -18,6 +22,7 @@ pub const DIRECTIVES: &[(&str, &str)] = &[
     ("s: SEG A", "a segment with a name: s.loop is the name loop in it, where several segments have one"),
     ("SEG A AT V", "and its names count from the virtual address V: a program's pages"),
     ("DD W 3,-1,list", "data of a size, B, H or W; a name is always a word"),
+    ("DD F 1.5,-2E10, D 0.1", "floating numbers, of 4 and of 8 bytes"),
     ("DD 'text', (H 1,2)*3", "characters; a group, three times"),
     ("RES n, ALI n", "n zeros; zeros up to a multiple of 2^n"),
     ("EQU n = 5, slot = 8+!R3", "names for texts"),

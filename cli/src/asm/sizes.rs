@@ -2,6 +2,7 @@
 
 use super::errors::{fault, Fault};
 use super::fields;
+use super::floats;
 use super::symbols::Symbols;
 use super::syntax::{Datum, Expression, Item, Kind, Page, Statement};
 use crate::image::LARGEST;
@@ -69,7 +70,7 @@ fn group(data: &[Datum], symbols: &Symbols, segment: usize) -> Result<u64, Fault
     Ok(total)
 }
 
-/// An address is a word; a number has its size, or the least that holds it with its sign.
+/// An address is a word; a number has its size, or the least that holds it with its sign. A floating number has always one.
 pub fn value_size(size: Option<Size>, value: &Expression, symbols: &Symbols, segment: usize) -> Result<Size, Fault> {
     let names = value.terms.iter().filter(|term| matches!(&term.item, Item::Name(name) if symbols.is_name(name)));
     let (mut sum, mut any) = (0, false);
@@ -79,6 +80,7 @@ pub fn value_size(size: Option<Size>, value: &Expression, symbols: &Symbols, seg
     }
     match (size, sum) {
         (_, 1) => Ok(Size::W),
+        (Some(size), _) if size.is_floating() => floats::bits(value, size, symbols).map(|_| size),
         (Some(size), _) => Ok(size),
         (None, _) if any => fault(value.column, "expected a size (B, H or W) before a difference of names"),
         (None, _) => {

@@ -68,7 +68,7 @@ impl Symbols {
 
     /// Whether a word is a name; FFFh is a number only where no label is called so.
     pub fn is_name(&self, word: &str) -> bool {
-        self.labels.contains(word) || notation::number(word).is_none()
+        self.labels.contains(word) || notation::long(word).is_none()
     }
 
     pub fn add_segment(&mut self, name: &str, segment: usize) {
@@ -160,6 +160,7 @@ impl Symbols {
         let name = match item {
             Item::Number(number) => return Ok((*number, None)),
             Item::Name(name) => name,
+            Item::Floating(_) | Item::Bits(_) => return fault(column, "a floating number is no part of a sum"),
         };
         if let Some(place) = self.find(name, segment, column)? {
             return Ok((place.address, Some(place)));

@@ -22,6 +22,10 @@ pub struct Term {
 pub enum Item {
     Number(u32),
     Name(String),
+    /// A floating number in decimal digits, with its sign.
+    Floating(String),
+    /// The bits of a floating number.
+    Bits(u64),
 }
 
 /// An operand: form and registers, and the sum that becomes z.

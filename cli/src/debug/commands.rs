@@ -1,7 +1,7 @@
 //! The commands of the prompt: one table of names, help and what they do.
 
 use super::history::History;
-use super::{breakpoints, listing, looks, moves};
+use super::{breakpoints, floating, listing, looks, moves};
 use crate::atlas;
 use crate::breakpoints::Breakpoints;
 use crate::code;
@@ -19,7 +19,7 @@ pub struct Session {
     pub code: BTreeSet<u32>,
     /// The line that an empty one repeats.
     last: String,
-    /// Where a repeated `memory` or `list` goes on.
+    /// Where a repeated `memory`, `show` or `list` goes on.
     pub onward: Option<u32>,
 }
 
@@ -96,6 +96,12 @@ const ROWS: &[Row] = &[
     row(&["where", "w"], "where, w", "shows how many steps are made and what is next", looks::place),
     row(&["registers"], "registers, i", "shows registers, mode, level, flags and blocks", looks::registers),
     row(&["memory", "x"], "memory [real] A [N], x", "shows N bytes (64) from an address on; x/N A shows N words", looks::memory),
+    row(
+        &["show"],
+        "show PLACE KIND [N]",
+        "shows floating numbers of a kind, F or D: that in a register, for D with the next one, or N (1) from an address on",
+        floating::show,
+    ),
     row(&["list", "l"], "list [A] [N], l", "lists N lines (10) of commands and data, around R15 or from an address on", listing::list),
     row(
         &["map"],
@@ -160,7 +166,7 @@ const ELSEWHERE: &[(&[&str], &str)] = &[
     (&["watch", "rwatch", "awatch"], "`break PLACE` holds before a command; no access to memory holds a run"),
     (&["clear"], "`delete N` deletes a breakpoint, `break` lists them"),
     (&["condition", "ignore", "commands"], "a breakpoint holds whenever it is armed; `disable N` switches it off"),
-    (&["print", "p", "display", "inspect"], "`registers` shows registers, `memory A` memory, `list A` commands"),
+    (&["print", "p", "display", "inspect"], "`registers` shows registers, `memory A` memory, `show A F` floating numbers, `list A` commands"),
     (
         &["set", "assign", "poke", "write"],
         "state is changed by steps and undone by `undo`, nothing else; to change the program, change its source; `break PLACE` sets a breakpoint",

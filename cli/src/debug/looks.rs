@@ -66,7 +66,7 @@ pub fn info(session: &mut Session, arguments: &[&str], out: &mut dyn Write) -> D
 }
 
 /// What `memory` is to show: the first address, and whether it is a real one.
-fn shown_from(session: &Session, text: &str, real: bool) -> Result<(u32, bool), String> {
+pub fn shown_from(session: &Session, text: &str, real: bool) -> Result<(u32, bool), String> {
     let machine = &session.machine;
     let names = machine.known.names(&machine.desk);
     if !real && !machine.desk.is_kernel() {
@@ -90,16 +90,36 @@ pub fn memory(session: &mut Session, arguments: &[&str], out: &mut dyn Write) ->
     nothing_more(arguments.get(2..).unwrap_or_default())?;
     let (from, real) = shown_from(session, text, real)?;
     let from = session.onward.unwrap_or(from);
+    let bytes = bytes(session, from, real, n);
+    rows(session, from, real, &bytes, dump::rows(from, &bytes), out)?;
+    session.onward = Some(from.wrapping_add(n));
+    Ok(())
+}
+
+/// Bytes from an address on, which may be a real one.
+pub fn bytes(session: &Session, from: u32, real: bool, n: u32) -> Vec<Option<u8>> {
     let machine = &session.machine;
     let byte = |i: u32| match real {
         true => view::byte(&machine.memory, from.wrapping_add(i)),
         false => effect::byte(&machine.desk, &machine.memory, from.wrapping_add(i)),
     };
-    let bytes: Vec<Option<u8>> = (0..n).map(byte).collect();
+    (0..n).map(byte).collect()
+}
+
+/// Writes the rows of some bytes, and why one of them cannot be read.
+pub fn rows(
+    session: &Session,
+    from: u32,
+    real: bool,
+    bytes: &[Option<u8>],
+    rows: Vec<String>,
+    out: &mut dyn Write,
+) -> Done {
+    let machine = &session.machine;
     if real && !machine.desk.is_kernel() {
         writeln!(out, "real addresses:")?;
     }
-    for row in dump::rows(from, &bytes) {
+    for row in rows {
         writeln!(out, "{row}")?;
     }
     if let Some(first) = bytes.iter().position(Option::is_none) {
@@ -110,7 +130,6 @@ pub fn memory(session: &mut Session, arguments: &[&str], out: &mut dyn Write) ->
         };
         writeln!(out, "{} cannot be read: {why}", hexadecimal(at))?;
     }
-    session.onward = Some(from.wrapping_add(n));
     Ok(())
 }
 

@@ -2,6 +2,7 @@
 
 mod breakpoints;
 mod commands;
+mod floating;
 mod history;
 mod listing;
 mod looks;

@@ -1,8 +1,8 @@
 //! Rows of data.
 
 use super::lines::Line;
-use crate::notation;
 use crate::table::Size;
+use crate::{floats, notation};
 
 /// A zero run of this length that nobody names is left out; SEG leads over it.
 pub const LONG: usize = 16;
@@ -78,9 +78,10 @@ fn sized(real: u32, bytes: &[u8], size: Size) -> Vec<Line> {
 }
 
 fn number(bytes: &[u8], size: Size) -> String {
-    let value = bytes.iter().fold(0, |value, byte| value << 8 | u32::from(*byte));
+    let value = bytes.iter().fold(0, |value, byte| value << 8 | u64::from(*byte));
     match size {
-        Size::B if value >= 128 => notation::hexadecimal(value),
-        _ => notation::value(value, size),
+        Size::F | Size::D => floats::written(value, size),
+        Size::B if value >= 128 => notation::hexadecimal(value as u32),
+        _ => notation::value(value as u32, size),
     }
 }

@@ -3,6 +3,7 @@
 use super::follow::{self, Code, Space};
 use super::ground::Ground;
 use crate::asm;
+use crate::floats;
 use crate::image::{Image, Program};
 use crate::names::Names;
 use crate::notation;
@@ -62,7 +63,11 @@ impl Labels {
     }
 
     fn add(&mut self, real: u32, name: &str) {
-        let is_written_number = |name: &str| notation::number(name).is_some_and(|n| notation::hexadecimal(n) == name);
+        let is_written = |n: u64, name: &str| match u32::try_from(n) {
+            Ok(n) => notation::hexadecimal(n) == name,
+            Err(_) => floats::digits(n, Size::D) == name,
+        };
+        let is_written_number = |name: &str| notation::long(name).is_some_and(|n| is_written(n, name));
         let clashes = |name: &str| asm::is_reserved(name) || is_written_number(name);
         let mut unique = name.to_string();
         let mut number = 2;

@@ -1,6 +1,6 @@
 //! The examples that are sources, by name.
 
-pub const EXAMPLES: [&str; 12] = [
+pub const EXAMPLES: [&str; 13] = [
     "division",
     "factorial",
     "fibonacci",
@@ -13,4 +13,5 @@ pub const EXAMPLES: [&str; 12] = [
     "sum",
     "system_call",
     "user_mode",
+    "weights",
 ];

@@ -1,11 +1,12 @@
 -- What the ends of the code are in the terms of `machine`: addresses that wrap, a status with its
 -- own flags, a store, and the order inside a command.
-use Prim.Native.Nat.{ℕ, zero, suc, _+_, _*_, _<_}
+use Prim.Native.Nat.{ℕ, zero, suc, _+_, _*_, _≤_, _<_}
 use mathlib.Core.Path.{_≡_, refl, sym, _∙_}
 use mathlib.Core.Bool.{Bool, true, false, false≢true}
 use mathlib.Core.List.{List}
 use mathlib.Core.Option.{Option, none, some}
 use native.Mathlib.Omega.{arith}
+use borrow.Author.Tests.{le-leb, lt-leb}
 use Rattle.machine.specs.declared.Map.{Map}
 use Rattle.machine.specs.declared.RealAddress.{RealAddress}
 use Rattle.machine.specs.declared.Alarm.{Alarm}
@@ -23,13 +24,13 @@ use Rattle.machine.specs.Code.{common, userOnly, kernelOnly, Rule, Known, known
 use Rattle.machine.specs.Integers.{natural, operate}
 use Rattle.machine.specs.Operands.{virtual, past, Operands, operandsFrom, operandsOf}
 use Rattle.machine.specs.Commands.{Done, stored, commonDone, done, knownOr12, allowedInUserMode, allowedInKernelMode}
-use Rattle.machine.specs.Commands.{completionOf, commandBy, userEffect, userCommand, kernelEffect, kernelCommand}
+use Rattle.machine.specs.Commands.{completionOf, floatCommand, commandBy, userEffect, userCommand, kernelEffect, kernelCommand}
 use Rattle.stores.specs.declared.Stored.{Stored}
 use Rattle.stores.specs.Answers.{storedAs, storeEndOf}
 use Rattle.rules.specs.Rules.{knownRules, forbiddenOf}
 use Rattle.actions.specs.Actions.{given, commonAction, commandAction, knownAction, actionOf}
 use Rattle.results.specs.declared.Out.{Out}
-use Rattle.results.specs.Ends.{End, alarmed, outAs, afterStore, AfterStore, writtenEnd, doneEnd}
+use Rattle.results.specs.Ends.{End, alarmed, outAs, afterStore, AfterStore, writtenEnd, doneEnd, endIn}
 use Rattle.commands.specs.Execution.{userEnd, kernelEnd, execOf, actionEnd}
 use Rattle.reads.proofs.Reading.{read-virtual}
 use Rattle.results.proofs.Ends.{same-status}
@@ -142,22 +143,36 @@ module _ (s : ℕ) (map : Map) (r : Registers) (m : Memory) where
   unfolding execOf userCommand kernelCommand commandBy
   exec-unfetched n x h = rw (read-virtual, ← h, pick-same)
 
-  module _ (b : ℕ) (h : got b ≡ readBytes (viewBy s map m) Fetch 1 (record { 0 = reg r 15 })) (l : b < 256) where
+  -- a byte from 80h on: a floating command
+  pub exec-floating : (b : ℕ) → got b ≡ readBytes (viewBy s map m) Fetch 1 (record { 0 = reg r 15 }) → 0x80 ≤ b
+      → endIn s map m (λ v. floatCommand b v (past 1 r)) ≡ execOf s map r m
+  unfolding execOf userCommand kernelCommand commandBy
+  exec-floating b h l =
+      rw (
+        read-virtual,
+        ← h,
+        le-leb 0x80 b l,
+        user-done s m (viewBy s map m) (floatCommand b (viewBy s map m) (past 1 r)),
+        kernel-done s m (viewBy s map m) (floatCommand b (viewBy s map m) (past 1 r)),
+        pick-same,
+      )
+
+  module _ (b : ℕ) (h : got b ≡ readBytes (viewBy s map m) Fetch 1 (record { 0 = reg r 15 })) (l : b < 0x80) where
     fetched : execOf s map r m ≡ fetchedEnd s m (viewBy s map m) r b (userMode s) (known b)
     unfolding execOf userCommand kernelCommand commandBy fetchedEnd
-    fetched = rw (read-virtual, ← h)
+    fetched = rw (read-virtual, ← h, lt-leb 0x80 b l)
 
     pub exec-forbidden : forbiddenOf b s ≡ true → alarmed alarms.Mode b m ≡ execOf s map r m
     exec-forbidden f =
         sym (fetched ∙ forbidden-known s m (viewBy s map m) r b (userMode s) (known b)
-        (forbids-byte (userMode s) b l ∙ f))
+        (forbids-byte (userMode s) b (omega arith) ∙ f))
 
     module _ (f : forbiddenOf b s ≡ false) where
       pub exec-alarm : (n : Alarm) (x : ℕ) → alarm n x ≡ operandsOf (viewBy s map m) (knownRules (known b)) (past 1 r)
           → alarmed n x m ≡ execOf s map r m
       exec-alarm n x a =
           sym (fetched ∙ alarm-known s m (viewBy s map m) r b (userMode s) (known b) n x
-          (forbids-byte (userMode s) b l ∙ f) (sym a))
+          (forbids-byte (userMode s) b (omega arith) ∙ f) (sym a))
 
       pub exec-action : (o : Operands) → got o ≡ operandsOf (viewBy s map m) (knownRules (known b)) (past 1 r)
           → actionEnd s m (viewBy s map m) (o .registers) (o .first) (o .target)
@@ -165,4 +180,4 @@ module _ (s : ℕ) (map : Map) (r : Registers) (m : Memory) where
       unfolding actionOf
       exec-action o a =
           sym (fetched ∙ action-known s m (viewBy s map m) r b (userMode s) (known b) o
-          (forbids-byte (userMode s) b l ∙ f) (sym a))
+          (forbids-byte (userMode s) b (omega arith) ∙ f) (sym a))

@@ -56,7 +56,7 @@ pub fn command(
     regs: &mut [u32; 16],
     status: u32,
     map: Map,
-    table: &[u16; 123],
+    table: &[u16; 166],
 ) -> Out
     requires { ⌜ Fits map (now mem) × (now table ≡ tableOf) ⌝ }
     ensures { λ r. ⌜ outAs r (now (regs .exit)) (now (mem .exit))
@@ -68,11 +68,14 @@ pub fn command(
     match c {
         CommandByte::Alarm(a, n) => Out::Alarm(a, n),
         CommandByte::Byte(b, found) => {
+            regs[15] = words::plus(pc, 1);
+            if 0x80 <= b {
+                return floating::command(mem, regs, status, map, table, start, found, b);
+            }
             let no = rules::forbidden(b, status);
             if no {
                 return Out::Alarm(b, Alarm::Mode);
             }
-            regs[15] = words::plus(pc, 1);
             let rules = rules::rules_of(table, b);
             let o = operands::take_all(mem, regs, status, map, start, found, rules);
             match o {

@@ -93,7 +93,7 @@ fn fields_bytewise(mem: &[u8], status: u32, map: Map, x: VirtualAddress) -> Oper
 }
 
 // The six bytes of an operand, looked up.
-fn fields_anew(mem: &[u8], status: u32, map: Map, x: VirtualAddress) -> OperandBytes
+pub fn fields_anew(mem: &[u8], status: u32, map: Map, x: VirtualAddress) -> OperandBytes
     requires { ⌜ Fits map (now mem) ⌝ }
     ensures value { λ r. ⌜ operandBytesAs r ≡ fieldsAt (viewBy status map (now (mem .entry))) (x .0) ⌝ }
     ensures small { λ r. ⌜ PairOrAlarm r ⌝ }

@@ -3,7 +3,7 @@
 use Prim.Native.Nat.{ℕ, _-_, _*_, _%_, _^_, _≤_, _<_}
 use mathlib.Core.Path.{_≡_, refl, ap, _∙_}
 use mathlib.Core.Logic.{_↔_}
-use mathlib.Core.Bool.{Bool, true, false, not}
+use mathlib.Core.Bool.{true, false, not}
 use native.Mathlib.Nat.{zero-mul}
 use native.Mathlib.Omega.{arith}
 use borrow.Author.Tests.{le-ltb, lt-leb, not-false}
@@ -11,7 +11,7 @@ use lib.Dec.{eqb}
 use lib.IntN.{ℤ, pos, _*ℤ_}
 use lib.Pow.{pow-pos}
 use Rattle.machine.specs.Words.{span}
-use Rattle.machine.specs.State.{flags, flagV}
+use Rattle.machine.specs.State.{flagV}
 use Rattle.machine.specs.Integers.{half, negative, signed, fits, kept, resultOf, plain, exact, complement}
 use Rattle.machine.specs.Integers.{shiftedLeft}
 use Rattle.machine.specs.TriedValues.{I, R, memoryWith, kernelDesk, ranOn}
@@ -19,6 +19,7 @@ use Rattle.machine.specs.LeftShifts.{shiftRan, LeftShifts}
 use Rattle.machine.proofs.WholeStep.{wholeStep}
 use Rattle.machine.proofs.Differences.{gap-pos, gap-same, gap-mul}
 use Rattle.machine.proofs.Widths.{by-sign, signed-gap, signed-fits, signed-kept, exact-fits}
+use Rattle.machine.proofs.Results.{flags-tell}
 use Rattle.machine.proofs.Magnitudes.{shift-left-all, shift-right-all}
 use Rattle.machine.proofs.Shifts.{kept-multiple, multiple-low, multiple-high}
 
@@ -26,24 +27,13 @@ product : (n b : ℕ) → shiftedLeft n b ≡ exact 4 (signed 4 b *ℤ pos (2 ^ 
 unfolding shiftedLeft
 product n b = rw (kept-multiple 4 b (2 ^ n))
 
--- V of the flags is V
-v-of : (n z v : Bool) → flagV (flags n z v false) ≡ v
-v-of true true true = refl
-v-of true true false = refl
-v-of true false true = refl
-v-of true false false = refl
-v-of false true true = refl
-v-of false true false = refl
-v-of false false true = refl
-v-of false false false = refl
-
 range-check : (n b : ℕ) → let r = shiftedLeft n b in
     (flagV (r .flags) ≡ false) ↔ (signed 4 (r .value) ≡ signed 4 b *ℤ pos (2 ^ n))
 unfolding resultOf
 range-check n b =
     let z = signed 4 b *ℤ pos (2 ^ n) in
     let x = kept 4 z in
-    let v = v-of (negative 4 x) (eqb x 0) (not (fits 4 z)) in
+    let v = flags-tell (negative 4 x) (eqb x 0) (not (fits 4 z)) false .2 in
     rw (product n b, v) (exactly z)
   where
     exactly : (z : ℤ) → (not (fits 4 z) ≡ false) ↔ (signed 4 (kept 4 z) ≡ z)

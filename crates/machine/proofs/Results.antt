@@ -12,11 +12,33 @@ use lib.Dec.{ltb, leb, eqb}
 use lib.IntN.{pos, _+ℤ_, _-ℤ_, _*ℤ_}
 use lib.Signed.{quotZ}
 use Rattle.machine.specs.Words.{span}
-use Rattle.machine.specs.State.{bit}
+use Rattle.machine.specs.State.{bit, flags, flagN, flagZ, flagV, flagC}
 use Rattle.machine.specs.Integers.{half, signed, fits, modulo, kept, resultOf, added, subtracted, divided}
 use Rattle.machine.proofs.Differences.{gap-shift, gap-add, gap-diff, gap-mul}
 use Rattle.machine.proofs.Widths.{b0, span-positive, half-twice, signed-gap, signed-low-is, signed-high-is}
 use Rattle.machine.proofs.Widths.{pos-fits, pos-over, neg-fits, kept-gap}
+
+-- ---- Flags
+
+-- each of the four is told by its own bit
+pub flags-tell : (n z v c : Bool) → let f = flags n z v c in
+    (flagN f ≡ n) × (flagZ f ≡ z) × (flagV f ≡ v) × (flagC f ≡ c)
+flags-tell true true true true = (refl, refl, refl, refl)
+flags-tell true true true false = (refl, refl, refl, refl)
+flags-tell true true false true = (refl, refl, refl, refl)
+flags-tell true true false false = (refl, refl, refl, refl)
+flags-tell true false true true = (refl, refl, refl, refl)
+flags-tell true false true false = (refl, refl, refl, refl)
+flags-tell true false false true = (refl, refl, refl, refl)
+flags-tell true false false false = (refl, refl, refl, refl)
+flags-tell false true true true = (refl, refl, refl, refl)
+flags-tell false true true false = (refl, refl, refl, refl)
+flags-tell false true false true = (refl, refl, refl, refl)
+flags-tell false true false false = (refl, refl, refl, refl)
+flags-tell false false true true = (refl, refl, refl, refl)
+flags-tell false false true false = (refl, refl, refl, refl)
+flags-tell false false false true = (refl, refl, refl, refl)
+flags-tell false false false false = (refl, refl, refl, refl)
 
 -- ---- Kept bytes
 

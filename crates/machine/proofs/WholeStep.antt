@@ -1,5 +1,6 @@
 -- To compute whole steps: a proof that names `wholeStep` on its `unfolding` line has every
 -- definition unfolded that a step computes with.
+use lib.Ieee.{ofBits, toBits, add, sub, mul, div, lt, eq, isNan}
 use Rattle.machine.specs.declared.Desk.{Desk}
 use Rattle.machine.specs.Words.{Memory, bytesOf, bytesOfWords, wordAt, wordsAt}
 use Rattle.machine.specs.State.{allowedLength, withFlags, validStatus, validUserStatus, validKernelStatus}
@@ -14,9 +15,13 @@ use Rattle.machine.specs.Operands.{takenBy, withTaken, operandsFrom}
 use Rattle.machine.specs.Integers.{negative, signed, fits, modulo, resultOf, complement, added, subtracted}
 use Rattle.machine.specs.Integers.{multiplied, divided, shiftedLeft, shiftedRight, shifted, rotated, operate}
 use Rattle.machine.specs.Integers.{compared}
+use Rattle.machine.specs.Floats.{infinite, numberFlags, computed, arithmetic, movedFloat, comparedFloats}
+use Rattle.machine.specs.FloatCode.{floatTable, knownFloatIn, knownFloat, excluded, floatOperandAt}
+use Rattle.machine.specs.FloatCode.{bitsInRegister, bitsToRegister, floatIn, floatTakenBy, floatOperandsFrom}
 use Rattle.machine.specs.Commands.{keptRest, stored, pushed, popped, called, returned, jumps, commonDone}
 use Rattle.machine.specs.Commands.{knownOr12, allowedInUserMode, allowedInKernelMode, completionOf, commandBy}
-use Rattle.machine.specs.Commands.{userEffect, userCommand, kernelEffect, kernelCommand}
+use Rattle.machine.specs.Commands.{userEffect, userCommand, kernelEffect, kernelCommand, floatStored}
+use Rattle.machine.specs.Commands.{floatDone, floatCommand}
 use Rattle.machine.specs.Steps.{stop, halt, completed, due, userWritten, ofUserCommand, interrupted, userPlan}
 use Rattle.machine.specs.Steps.{enterIf, concluded, userStep, resume, kernelWritten, ofKernelCommand}
 use Rattle.machine.specs.Steps.{kernelStep, oneStep}
@@ -33,5 +38,7 @@ unfolding bytesOf bytesOfWords wordAt wordsAt allowedLength withFlags validStatu
     returned jumps commonDone knownOr12 allowedInUserMode allowedInKernelMode completionOf commandBy userEffect
     userCommand kernelEffect kernelCommand stop halt completed due userWritten ofUserCommand interrupted userPlan
     enterIf concluded userStep resume kernelWritten ofKernelCommand kernelStep oneStep passes5 firstRefused
-    stepRefusal unchanged unlessRefused stepOutcome stepOf
+    stepRefusal unchanged unlessRefused stepOutcome stepOf ofBits toBits add sub mul div lt eq isNan infinite
+    numberFlags computed arithmetic movedFloat comparedFloats floatTable knownFloatIn knownFloat excluded
+    floatOperandAt bitsInRegister bitsToRegister floatIn floatTakenBy floatOperandsFrom floatStored floatDone floatCommand
 wholeStep d m = stepOf d m

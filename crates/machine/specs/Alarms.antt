@@ -28,9 +28,10 @@ alarmNumbers alarms.Command = itsOwnCause 12
 -- "HALT or RESUME in user mode, or a system call in kernel mode"
 alarmNumbers alarms.Mode = itsOwnCause 13
 -- "an operand breaks a form rule, or RESUME's block breaks 3 or 4 or its status isn't a valid user
--- status"
+-- status"; F-6: "Alarm 14 also covers form 1 for D and, in form 2, register 15 for F and 14 or 15 for
+-- D."
 alarmNumbers alarms.Operand = itsOwnCause 14
--- "DIV by zero"
+-- "DIV by zero", of integers; F-6: "Division by zero raises no alarm."
 alarmNumbers alarms.Divide = itsOwnCause 15
 -- F-4: "21, alarm for a command or operand byte fetched there, [..] cause and system block entry
 -- 2"; entry 21 is that of interrupt level 5

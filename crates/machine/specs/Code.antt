@@ -1,7 +1,7 @@
 -- Document 01, "Code": the table of command bytes, with the count, sizes and roles of each
 -- command's operands.
 use Prim.Native.Nat.{ℕ, _+_, _-_}
-use mathlib.Core.Bool.{_&&_}
+use mathlib.Core.Bool.{Bool, true, false, _&&_}
 use mathlib.Core.List.{List, [], _∷_}
 use mathlib.Core.Option.{Option, none, some}
 use lib.Dec.{ltb, leb, eqb}
@@ -47,6 +47,20 @@ pub data Command : Type 0 where
 pub record Rule : Type 0 where
   pub size : Size
   pub role : Role
+
+-- a role takes its operand's value
+abbrev pub readBy : Role → Bool
+readBy Value = true
+readBy Address = false
+readBy Destination = false
+readBy Update = true
+
+-- a result goes to an operand of the role
+abbrev pub writtenTo : Role → Bool
+writtenTo Value = false
+writtenTo Address = false
+writtenTo Destination = true
+writtenTo Update = true
 
 abbrev pub value : Size → Rule
 value s = record { size = s; role = Value }
@@ -131,7 +145,7 @@ pub record Known : Type 0 where
   pub command : Command
   pub operands : List Rule
 
--- "All other bytes are unknown"
+-- "All other bytes are unknown"; document 02, F-6, adds those of FloatCode.antt
 unfoldable pub knownIn : List Row → ℕ → Option Known
 knownIn [] b = none
 knownIn (one n c os ∷ rows) b = pick (eqb b n) (some (record { command = c; operands = os })) (knownIn rows b)

@@ -4,7 +4,7 @@ use Prim.Native.Nat.{ℕ, zero, suc, _+_, _*_, _/_}
 use mathlib.Core.Bool.{Bool, true, not, _||_}
 use mathlib.Core.List.{[], _++_}
 use mathlib.Core.Option.{Option, none, some}
-use lib.Dec.{eqb}
+use lib.Dec.{leb, eqb}
 use lib.ListN.{set}
 use Rattle.machine.specs.declared.VirtualAddress.{VirtualAddress}
 use Rattle.machine.specs.declared.Access.the-variants.{Fetch, Read}
@@ -12,7 +12,9 @@ use Rattle.machine.specs.declared.Alarm.the-variants as alarms
 use Rattle.machine.specs.declared.Target.{Target}
 use Rattle.machine.specs.declared.Target.the-variants.{Nowhere, Register, Memory}
 use Rattle.machine.specs.declared.Result.{Result}
-use Rattle.machine.specs.Words.{pick, lengthOf, span, bytesOf, raised, lowered}
+use Rattle.machine.specs.declared.Kind.{Kind}
+use Rattle.machine.specs.declared.FloatResult.{FloatResult}
+use Rattle.machine.specs.Words.{pick, lengthOf, kindLength, span, bytesOf, raised, lowered}
 use Rattle.machine.specs.State.{Registers, reg, flagN, flagZ, flagV, flagC}
 use Rattle.machine.specs.Alarms.{OrAlarm, got, alarm, _>>=_}
 use Rattle.machine.specs.Map.{View, readBytes, VirtualWrites, writesFrom}
@@ -21,6 +23,9 @@ use Rattle.machine.specs.Code.{PUSHR, POPR, jump, CALL, RET, UserOnly, s
 use Rattle.machine.specs.Code.{Command, common, userOnly, kernelOnly, Known, known}
 use Rattle.machine.specs.Operands.{virtual, past, Operands, operandsOf}
 use Rattle.machine.specs.Integers.{natural, operate, compared}
+use Rattle.machine.specs.Floats.{numberOf, arithmetic, movedFloat, comparedFloats}
+use Rattle.machine.specs.FloatCode as float
+use Rattle.machine.specs.FloatCode.{FloatCommand, knownFloat, bitsToRegister, floatOperandsOf}
 
 -- ---- What a command comes to
 
@@ -42,6 +47,14 @@ stored L x Nowhere r = record { registers = r; flags = x .flags; writes = [] }
 stored L x (Register i) r =
     record { registers = set r i (keptRest L (reg r i) (x .value)); flags = x .flags; writes = [] }
 stored L x (Memory a) r = record { registers = r; flags = x .flags; writes = writesFrom (a .0) (bytesOf L (x .value)) }
+
+-- a floating result of a kind goes to its target
+unfoldable pub floatStored : Kind → FloatResult → Target → Registers → Done
+floatStored k x Nowhere r = record { registers = r; flags = x .flags; writes = [] }
+floatStored k x (Register i) r =
+    record { registers = bitsToRegister k r i (x .bits); flags = x .flags; writes = [] }
+floatStored k x (Memory a) r =
+    record { registers = r; flags = x .flags; writes = writesFrom (a .0) (bytesOf (kindLength k) (x .bits)) }
 
 -- ---- The stack
 
@@ -124,7 +137,7 @@ commonDone RET v f o = returnedDone v (o .registers) f
 -- ---- The command at R15
 
 -- 12: "the command byte is unknown"; its argument is the command byte
-unfoldable pub knownOr12 : ℕ → Option Known → OrAlarm Known
+unfoldable pub knownOr12 : {K : Type 0} → ℕ → Option K → OrAlarm K
 knownOr12 b none = alarm alarms.Command b
 knownOr12 b (some k) = got k
 
@@ -157,17 +170,37 @@ completionOf effect (both c) v f o = do
   got (done d)
 completionOf effect (only s) v f o = got (ofMode (effect s o))
 
+-- F-6: what a floating command comes to, from its kind and its operands
+unfoldable pub floatDone : FloatCommand → Kind → Operands → Done
+floatDone (float.gives op) k o = floatStored k (arithmetic op k (o .first) (o .second)) (o .target) (o .registers)
+floatDone float.MOVE k o = floatStored k (movedFloat k (o .first)) (o .target) (o .registers)
+floatDone float.CMP k o = record {
+  registers = o .registers;
+  flags = comparedFloats (numberOf k (o .first)) (numberOf k (o .second));
+  writes = [];
+}
+
+-- the floating command of byte b, over registers with R15 past the byte. Both modes allow it, it
+-- reads no stack, and no operation alarms
+unfoldable pub floatCommand : ℕ → View → Registers → OrAlarm Done
+floatCommand b v r = do
+  k ← knownOr12 b (knownFloat b)
+  o ← floatOperandsOf v (k .kind) (k .roles) r
+  got (floatDone (k .command) (k .kind) o)
+
 -- the order inside a command: "byte, mode, then each operand left to right (fetch, form, address,
 -- and reading where its value is used), the stack bytes read, from SP upward, the operation, the
--- bytes written, upward from the first (for PUSHR and CALL the new SP)"
+-- bytes written, upward from the first (for PUSHR and CALL the new SP)". The two tables share no byte:
+-- 01's ends at 7Ah, F-6's begins at 80h. F-6: demands 2 and 3 include its commands
 unfoldable pub commandBy : {S E : Type 0} → (ℕ → Command → OrAlarm (Allowed S)) → (S → Operands → E) → View
     → Registers → ℕ → OrAlarm (Completion E)
 commandBy mode effect v r f = do
   b ← readBytes v Fetch 1 (virtual (reg r 15))
-  k ← knownOr12 b (known b)
-  c ← mode b (k .command)
-  o ← operandsOf v (k .operands) (past 1 r)
-  completionOf effect c v f o
+  pick (leb 0x80 b) (floatCommand b v (past 1 r) >>= (λ d. got (done d))) (do
+    k ← knownOr12 b (known b)
+    c ← mode b (k .command)
+    o ← operandsOf v (k .operands) (past 1 r)
+    completionOf effect c v f o)
 
 -- a system call: its argument, and the registers to save
 pub record SystemCall : Type 0 where

@@ -1,9 +1,11 @@
--- Bytes, words and sizes. Document 01: "Bytes of a value stand highest first (source document 000,
+-- Bytes, words, sizes and kinds. Document 01: "Bytes of a value stand highest first (source document 000,
 -- 1.2). B, H, W are values of 1, 2, 4 bytes; that length is L."
 use Prim.Native.Nat.{ℕ, zero, suc, _+_, _-_, _*_, _/_, _%_, _^_}
 use mathlib.Core.Bool.{Bool, true, false}
 use mathlib.Core.List.{List, [], _∷_, _++_}
 use lib.ListN.{getD}
+use Rattle.machine.specs.declared.Kind.{Kind}
+use Rattle.machine.specs.declared.Kind.the-variants.{F, D}
 use Rattle.machine.specs.declared.Size.{Size}
 use Rattle.machine.specs.declared.Size.the-variants.{B, H, W}
 
@@ -30,6 +32,15 @@ abbrev pub sizeAt : ℕ → Size
 sizeAt zero = B
 sizeAt (suc zero) = H
 sizeAt (suc (suc k)) = W
+
+-- document 02, F-6: "j = 0 for F (4 bytes), 1 for D (8)"
+abbrev pub kindAt : ℕ → Kind
+kindAt zero = F
+kindAt (suc j) = D
+
+abbrev pub kindLength : Kind → ℕ
+kindLength F = 4
+kindLength D = 8
 
 -- L bytes hold the values below 256 ^ L
 abbrev pub span : ℕ → ℕ

@@ -3,6 +3,7 @@ ghost use lib.Dec.{eqb};
 ghost use mathlib.Core.Path.{_≡_};
 ghost use Rattle.machine.specs.Words.{lengthOf, pick};
 ghost use Rattle.machine.specs.Alarms.{alarmCause, alarmNumber, alarmNumbers, itsOwnCause};
+ghost use Rattle.machine.specs.Words.{kindLength};
 ghost use Rattle.machine.specs.Calls.{refusalNumber, answerNumber, stepAnswerNumber};
 
 // The bytes of the system block and of the control block.
@@ -38,6 +39,12 @@ pub enum Size {
     W,
 }
 
+// The kinds of a floating number, short and long (document 02, F-6).
+pub enum Kind {
+    F,
+    D,
+}
+
 // What a command does with an operand: reads its value, uses its address, writes it, or reads and
 // then writes it.
 pub enum Role {
@@ -57,6 +64,20 @@ pub enum Target {
 // What an operation gives: a value and the flags that it sets.
 pub struct Result {
     pub value: u32,
+    pub flags: u32,
+}
+
+// The operations on two floating numbers.
+pub enum Arithmetic {
+    Add,
+    Sub,
+    Mult,
+    Div,
+}
+
+// What an operation on floating numbers gives: the bits of its result and the flags that it sets.
+pub struct FloatResult {
+    pub bits: u64,
     pub flags: u32,
 }
 
@@ -151,6 +172,18 @@ impl Size {
             Size::B => 1,
             Size::H => 2,
             Size::W => 4,
+        }
+    }
+}
+
+impl Kind {
+    // L, the number of its bytes.
+    pub fn length(self) -> u32
+        ensures { λ r. ⌜ r ≡ kindLength self ⌝ }
+    {
+        match self {
+            Kind::F => 4,
+            Kind::D => 8,
         }
     }
 }

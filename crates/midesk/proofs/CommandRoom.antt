@@ -1,29 +1,36 @@
 -- What a command leaves has room in its bytes: every register below 2^32, every written byte below
 -- 256, whatever the command, if it starts from such registers and sees only such bytes.
-use Prim.Native.Nat.{ℕ, zero, suc, _+_, _<_}
+use Prim.Native.Nat.{ℕ, zero, suc, _+_, _/_, _%_, _<_}
 use mathlib.Core.List.{List, [], _∷_, _++_}
 use native.Mathlib.Omega.{arith}
-use lib.Dec.{eqb}
+use lib.Dec.{leb, eqb}
 use lib.ListN.{set}
 use Rattle.machine.specs.declared.Access.the-variants.{Fetch, Read}
+use Rattle.machine.specs.declared.Kind.{Kind}
+use Rattle.machine.specs.declared.Kind.the-variants.{F, D}
+use Rattle.machine.specs.declared.FloatResult.{FloatResult}
 use Rattle.machine.specs.declared.Size.{Size}
 use Rattle.machine.specs.declared.Size.the-variants.{B, H, W}
 use Rattle.machine.specs.declared.Target.{Target}
 use Rattle.machine.specs.declared.Target.the-variants as target
 use Rattle.machine.specs.declared.Result.{Result}
-use Rattle.machine.specs.Words.{pick, Memory, lengthOf, bytesOf, raised, lowered}
+use Rattle.machine.specs.Words.{pick, Memory, lengthOf, kindLength, span, bytesOf, raised, lowered}
 use Rattle.machine.specs.State.{Registers, reg}
 use Rattle.machine.specs.Alarms.{OrAlarm}
 use Rattle.machine.specs.Map.{View, readBytes, VirtualWrites, writesFrom}
 use Rattle.machine.specs.Code.{Common, result, CMP, PUSHR, POPR, jump, CALL, RET, Command, known}
 use Rattle.machine.specs.Operands.{virtual, past, Operands, operandsOf}
 use Rattle.machine.specs.Integers.{natural, operate}
+use Rattle.machine.specs.Floats.{arithmetic, movedFloat}
+use Rattle.machine.specs.FloatCode as float
+use Rattle.machine.specs.FloatCode.{FloatCommand, knownFloat, nextRegister, bitsToRegister, floatOperandsOf}
+use Rattle.machine.specs.Commands.{floatStored, floatDone, floatCommand}
 use Rattle.machine.specs.Commands.{Done, keptRest, stored, pushed, popped, called, returned, jumps, commonDone}
 use Rattle.machine.specs.Commands.{knownOr12, Allowed, both, only, Completion, done, ofMode, completionOf, commandBy}
 use Rattle.machine.proofs.Bytes.{bytes-small}
 use Rattle.midesk.proofs.Stops.{picked}
 use Rattle.midesk.proofs.Room.{Word, Below, tail-below, Sixteen, set-held, Got, bound, after, Sees, read-held}
-use Rattle.midesk.proofs.OperandRoom.{HeldOperands, operands-held}
+use Rattle.midesk.proofs.OperandRoom.{HeldOperands, operands-held, float-operands-held}
 
 -- ---- What a command comes to
 
@@ -65,6 +72,28 @@ stored-held s x (target.Register i) r h =
     record { registers = set-held i _ h (rest-held s (reg r i) (x .value) (h .words .at i)); writes = tt }
 stored-held s x (target.Memory a) r h =
     record { registers = h; writes = value-small (a .0) (lengthOf s) (x .value) }
+
+registers-held : (k : Kind) (r : Registers) (i n : ℕ) → Sixteen r → Sixteen (bitsToRegister k r i n)
+unfolding bitsToRegister
+registers-held F r i n h = set-held i (n % span 4) h (omega arith)
+registers-held D r i n h =
+    set-held (nextRegister i) (n % span 4) (set-held i (n / span 4 % span 4) h (omega arith)) (omega arith)
+
+float-stored-held : (k : Kind) (x : FloatResult) (t : Target) (r : Registers) → Sixteen r
+    → HeldDone (floatStored k x t r)
+unfolding floatStored
+float-stored-held k x target.Nowhere r h = record { registers = h; writes = tt }
+float-stored-held k x (target.Register i) r h =
+    record { registers = registers-held k r i (x .bits) h; writes = tt }
+float-stored-held k x (target.Memory a) r h =
+    record { registers = h; writes = value-small (a .0) (kindLength k) (x .bits) }
+
+float-done-held : (c : FloatCommand) (k : Kind) (o : Operands) → Sixteen (o .registers) → HeldDone (floatDone c k o)
+unfolding floatDone
+float-done-held (float.gives op) k o h =
+    float-stored-held k (arithmetic op k (o .first) (o .second)) (o .target) (o .registers) h
+float-done-held float.MOVE k o h = float-stored-held k (movedFloat k (o .first)) (o .target) (o .registers) h
+float-done-held float.CMP k o h = record { registers = h; writes = tt }
 
 pushed-held : (i sp : ℕ) (r : Registers) (ws : VirtualWrites) (f : ℕ) → Sixteen r → Word sp → Small ws
     → HeldDone (pushed i sp r ws f)
@@ -122,6 +151,14 @@ module _ (v : View) (sees : Sees v) where
         writes = tt;
       }
 
+  float-held : (b : ℕ) (r : Registers) → Sixteen r → Got HeldDone (floatCommand b v r)
+  unfolding floatCommand
+  float-held b r h =
+      after HeldDone (knownOr12 b (knownFloat b)) _ λ k.
+      bound (λ o. Sixteen (o .registers)) HeldDone (floatOperandsOf v (k .kind) (k .roles) r) _
+      (float-operands-held v sees 1 (k .kind) (k .roles) _ h)
+      λ o ho. float-done-held (k .command) (k .kind) o ho
+
   -- a command of a mode whose own commands have effects with the property P
   module _ {S E : Type 0} (P : E → Type 0) (mode : ℕ → Command → OrAlarm (Allowed S)) (effect : S → Operands → E)
       (kept : (s : S) (o : Operands) → HeldOperands o → P (effect s o)) where
@@ -135,13 +172,13 @@ module _ (v : View) (sees : Sees v) where
     pub command-held : (r : Registers) (f : ℕ) → Sixteen r → Got (HeldCompletion P) (commandBy mode effect v r f)
     unfolding commandBy
     command-held r f h =
+        let past-byte = set-held 15 (raised (reg r 15) 1) h (omega arith) in
         after (HeldCompletion P) (readBytes v Fetch 1 (virtual (reg r 15))) _ λ b.
-        after (HeldCompletion P) (knownOr12 b (known b)) _ λ k.
+        picked (Got (HeldCompletion P)) (leb 0x80 b) _ _
+        (bound HeldDone (HeldCompletion P) (floatCommand b v (past 1 r)) _ (float-held b (past 1 r) past-byte) λ d hd. hd)
+        (after (HeldCompletion P) (knownOr12 b (known b)) _ λ k.
         after (HeldCompletion P) (mode b (k .command)) _ λ c.
         bound HeldOperands (HeldCompletion P) (operandsOf v (k .operands) (past 1 r)) _
-        (operands-held v sees 1 (k .operands) _ (record {
-          first = omega arith;
-          second = omega arith;
-          registers = set-held 15 (raised (reg r 15) 1) h (omega arith);
-        }))
-        λ o ho. completion-held c f o ho
+        (operands-held v sees 1 (k .operands) _
+        (record { first = omega arith; second = omega arith; registers = past-byte }))
+        λ o ho. completion-held c f o ho)

@@ -6,11 +6,12 @@ use native.Mathlib.Omega.{arith}
 use lib.Dec.{eqb}
 use lib.ListN.{set}
 use Rattle.machine.specs.declared.Access.the-variants.{Fetch, Read}
+use Rattle.machine.specs.declared.Kind.{Kind}
 use Rattle.machine.specs.declared.Size.{Size}
 use Rattle.machine.specs.declared.Size.the-variants.{B, H, W}
 use Rattle.machine.specs.declared.Role.{Role}
 use Rattle.machine.specs.declared.Role.the-variants as role
-use Rattle.machine.specs.Words.{lengthOf, wrap, raised}
+use Rattle.machine.specs.Words.{lengthOf, kindLength, wrap, raised}
 use Rattle.machine.specs.State.{Registers, reg}
 use Rattle.machine.specs.Alarms.{OrAlarm}
 use Rattle.machine.specs.Map.{View, readBytes}
@@ -18,6 +19,7 @@ use Rattle.machine.specs.Code.{Rule}
 use Rattle.machine.specs.Operands.{Fields, fieldsAt, virtual, keepsRules, Location, immediate, register, memory}
 use Rattle.machine.specs.Operands.{Operand, wordBehind, byForm, past, operandAt, valueIn, addressIn, targetIn, Taken}
 use Rattle.machine.specs.Operands.{takenBy, Operands, withTaken, operandsFrom}
+use Rattle.machine.specs.FloatCode.{excluded, floatOperandAt, floatTakenBy, floatOperandsFrom}
 use Rattle.midesk.proofs.Stops.{picked}
 use Rattle.midesk.proofs.Room.{Word, Sixteen, set-held, Got, bound, after, Sees, read-held}
 
@@ -124,3 +126,24 @@ module _ (v : View) (sees : Sees v) where
         second = picked Word (eqb place 2) (t .number) (o .second) ht (h .second);
         registers = hp .registers;
       })
+
+  -- ---- Floating commands: their operands leave such registers
+
+  float-operand-held : (place : ℕ) (k : Kind) (r : Registers) → Sixteen r
+      → Got HeldOperand (floatOperandAt v place k r)
+  unfolding floatOperandAt
+  float-operand-held place k r h =
+      bound HeldFields HeldOperand (fieldsAt v (reg r 15)) _ (fields-held (reg r 15)) λ q z.
+      picked (Got HeldOperand) (excluded k q) _ _ tt
+      (picked (Got HeldOperand) (keepsRules (kindLength k) q) _ _
+      (form-held (kindLength k) (past 6 r) q (set-held 15 (raised (reg r 15) 6) h (omega arith)) z) tt)
+
+  pub float-operands-held : (place : ℕ) (k : Kind) (roles : List Role) (o : Operands) → Sixteen (o .registers)
+      → Got (λ o. Sixteen (o .registers)) (floatOperandsFrom v place k roles o)
+  unfolding floatOperandsFrom withTaken
+  float-operands-held place k [] o h = h
+  float-operands-held place k (role ∷ roles) o h =
+      bound HeldOperand (λ o. Sixteen (o .registers)) (floatOperandAt v place k (o .registers)) _
+      (float-operand-held place k (o .registers) h) λ p hp.
+      after (λ o. Sixteen (o .registers)) (floatTakenBy v place k p role) _ λ t.
+      float-operands-held (suc place) k roles (withTaken place o t (p .registers)) (hp .registers)

@@ -20,7 +20,7 @@ use Rattle.machine.specs.Map.{mapEntry, present, frameOf, undamaged, Reached}
 use Rattle.machine.specs.Calls.{passes6, requestRefusal, requestOutcome}
 use Rattle.machine.specs.Isolation.{step, Premise, inUserMode, oneLength, sameMap, sameSystemBlock, sameReachedFrames}
 use Rattle.machine.specs.Isolation.{mapNotWritable, Holds}
-use Rattle.premises.specs.Premises.{MetByInterrupt, MetByAlarm21, Needed, EachNeeded}
+use Rattle.premises.specs.Premises.{MetByInterrupt, MetByAlarm21, MetByFloats, Needed, EachNeeded}
 use Rattle.machine.proofs.WholeStep.{wholeStep}
 
 -- ---- The desks and the memories
@@ -42,7 +42,9 @@ deskAt s r15 = record {
 }
 
 -- from 1024 on: MOVE B I 80h,524; 1037: MOVE B 1536,R0; 1050: MOVE W I 5,1280; 1063: SH I
--- 30,1280,R1; 1082: MOVE W I 5,256; 1095: SH I 30,256,R1; 1114: JUMP 256
+-- 30,1280,R1; 1082: MOVE W I 5,256; 1095: SH I 30,256,R1; 1114: JUMP 256; 1121: ADD D
+-- 1185,1193,1532; 1140: MOVE D 1532,R2; 1153: DIV D 1280,R2,R4; 1172: CMP D R2,I 0; 1185: 0.1 and
+-- 1193: 0.2, the D nearest to them
 code : List ℕ
 code =
     0x10 ∷ 1 ∷ 0x00 ∷ 0 ∷ 0 ∷ 0x00 ∷ 0x80 ∷ 0 ∷ 0x00 ∷ 0 ∷ 0 ∷ 0x02 ∷ 0x0C
@@ -52,6 +54,12 @@ code =
     ∷ 0x12 ∷ 1 ∷ 0x00 ∷ 0 ∷ 0 ∷ 0x00 ∷ 0x05 ∷ 0 ∷ 0x00 ∷ 0 ∷ 0 ∷ 0x01 ∷ 0x00
     ∷ 0x60 ∷ 1 ∷ 0x00 ∷ 0 ∷ 0 ∷ 0x00 ∷ 0x1E ∷ 0 ∷ 0x00 ∷ 0 ∷ 0 ∷ 0x01 ∷ 0x00 ∷ 2 ∷ 0x10 ∷ 0 ∷ 0 ∷ 0x00 ∷ 0x00
     ∷ 0x70 ∷ 0 ∷ 0x00 ∷ 0 ∷ 0 ∷ 0x01 ∷ 0x00
+    ∷ 0x85 ∷ 0 ∷ 0x00 ∷ 0 ∷ 0 ∷ 0x04 ∷ 0xA1 ∷ 0 ∷ 0x00 ∷ 0 ∷ 0 ∷ 0x04 ∷ 0xA9 ∷ 0 ∷ 0x00 ∷ 0 ∷ 0 ∷ 0x05 ∷ 0xFC
+    ∷ 0xA1 ∷ 0 ∷ 0x00 ∷ 0 ∷ 0 ∷ 0x05 ∷ 0xFC ∷ 2 ∷ 0x20 ∷ 0 ∷ 0 ∷ 0x00 ∷ 0x00
+    ∷ 0x9D ∷ 0 ∷ 0x00 ∷ 0 ∷ 0 ∷ 0x05 ∷ 0x00 ∷ 2 ∷ 0x20 ∷ 0 ∷ 0 ∷ 0x00 ∷ 0x00 ∷ 2 ∷ 0x40 ∷ 0 ∷ 0 ∷ 0x00 ∷ 0x00
+    ∷ 0xA5 ∷ 2 ∷ 0x20 ∷ 0 ∷ 0 ∷ 0x00 ∷ 0x00 ∷ 1 ∷ 0x00 ∷ 0 ∷ 0 ∷ 0x00 ∷ 0x00
+    ∷ 0x3F ∷ 0xB9 ∷ 0x99 ∷ 0x99 ∷ 0x99 ∷ 0x99 ∷ 0x99 ∷ 0x9A
+    ∷ 0x3F ∷ 0xC9 ∷ 0x99 ∷ 0x99 ∷ 0x99 ∷ 0x99 ∷ 0x99 ∷ 0x9A
     ∷ []
 
 -- k entries of the system block, with R15 0 and status 80000000h
@@ -197,6 +205,42 @@ met-by-alarm-21 = record {
   written = λ e. eqb-false 5 0 refl e;
 }
 
+-- ADD D 1185,1193,1532: 0.1 + 0.2, rounded, to the last four bytes of page 2 and the first four of
+-- page 3, both writable and both frame 2, so real 1532 and 1024, where no command runs here; MOVE D
+-- 1532,R2; a request of level 5 at level 5; DIV D 1280,R2,R4: the sum by zero, infinite, with V and
+-- no alarm; CMP D R2,I 0, kernel entry 14; a byte of frame 3 differs
+pub met-by-floats : MetByFloats
+unfolding computing
+met-by-floats = record {
+  met = record {
+    desk = deskAt 0x50 1121;
+    memory = memoryOf 0 0 0xC0 2;
+    other = set (memoryOf 0 0 0xC0 2) 1536 1;
+    differ = λ e. eqb-false 0 1 refl (ap (λ (x : Memory). byteAt x 1536) e);
+    premises =
+        λ p. held-where 0x50 1121 (memoryOf 0 0 0xC0 2) 1536 1 (λ q. Unit {0}) (λ n. refl) (λ n. refl) (λ n. refl)
+        (λ n. refl) (λ n. refl) p tt;
+    usable = record { held = refl; accepted = (refl, (refl, (refl, (refl, (refl, tt))))) };
+    usable′ = record { held = refl; accepted = (refl, (refl, (refl, (refl, (refl, tt))))) };
+    writes = λ e. eqb-false 0x3F 0 refl (ap (λ (x : Memory). byteAt x 1532) e);
+    saved =
+        savedBytes (0 ∷ 0 ∷ 0x3FD3_3333 ∷ 0x3333_3334 ∷ 0x7FF0_0000 ∷ replicate 10 0 ++ 1172 ∷ []) 0x52 2;
+    ends = refl;
+  };
+  command = refl;
+  first = record { 0 = 1185 };
+  second = record { 0 = 1193 };
+  target = record { 0 = 1532 };
+  a = 0x3FB9_9999_9999_999A;
+  b = 0x3FC9_9999_9999_999A;
+  reads = (refl, refl);
+  two-pages = λ e. eqb-false 2 3 refl e;
+  written = refl;
+  moved = refl;
+  divided = refl;
+  argument = refl;
+}
+
 -- ---- Each premise needed
 
 -- in kernel mode MOVE B 1536,R0 reads a byte of frame 3, which the map does not reach
@@ -283,21 +327,21 @@ same-system-block-needed = record {
   broken = λ h. differ-by (register 15) refl (h .calls .0 .desks);
 }
 
--- page 3 names frame 3, without commands, and MOVE B 1536,R0 reads a byte of it that differs: such
--- a frame is a reached one
+-- page 3 names frame 3, without commands, and MOVE D 1532,R2 reads the last four bytes of page 2 and
+-- the first four of page 3, of which one differs: such a frame is a reached one
 same-reached-frames-needed : Needed sameReachedFrames
 unfolding computing
 same-reached-frames-needed = record {
-  desk = deskAt 0 1037;
+  desk = deskAt 0 1140;
   memory = memoryOf 0 0 0xA0 3;
   other = set (memoryOf 0 0 0xA0 3) 1536 1;
   others =
-      held-where 0 1037 (memoryOf 0 0 0xA0 3) 1536 1 (λ q. q ≢ sameReachedFrames) (λ n. refl) (λ n. refl) (λ n. refl)
+      held-where 0 1140 (memoryOf 0 0 0xA0 3) 1536 1 (λ q. q ≢ sameReachedFrames) (λ n. refl) (λ n. refl) (λ n. refl)
       (λ n. absurd (n refl)) (λ n. refl);
   calls = step ∷ [];
   usable = record { held = refl; accepted = (refl, tt) };
   usable′ = record { held = refl; accepted = (refl, tt) };
-  broken = λ h. differ-by (register 0) refl (h .calls .0 .desks);
+  broken = λ h. differ-by (register 3) refl (h .calls .0 .desks);
 }
 
 -- page 1 names frame 1, writable and without commands, where the map lies: MOVE B I 80h,524 makes

@@ -1,12 +1,13 @@
 -- A command whose operands are taken and whose end is known is carried out; one that is left has
 -- changed R15 alone, which is put back. The bytes from 10h on are commands of both modes.
 use Prim.Native.Nat.{ℕ, _≤_, _<_}
-use mathlib.Core.Path.{_≡_, ap, _∙_}
+use mathlib.Core.Path.{_≡_, refl, ap, subst, _∙_}
 use mathlib.Core.Bool.{Bool, true, false, _||_}
 use mathlib.Core.List.{List}
+use mathlib.Core.Option.{none}
 use native.Mathlib.Omega.{arith}
-use borrow.Author.Tests.{ne-eqb}
-use lib.Dec.{eqb}
+use borrow.Author.Tests.{ne-eqb, leb-true, leb-false}
+use lib.Dec.{leb, eqb}
 use lib.ListN.{set}
 use lib.Seq.{set-set, set-getD}
 use Rattle.machine.specs.declared.Map.{Map}
@@ -15,11 +16,12 @@ use Rattle.machine.specs.State.{Registers, reg, userMode, flagsOf}
 use Rattle.machine.specs.Alarms.{got}
 use Rattle.machine.specs.declared.Access.the-variants.{Fetch}
 use Rattle.machine.specs.Map.{viewBy, readBytes}
-use Rattle.machine.specs.Code.{Rule, known}
+use Rattle.machine.specs.Code.{Rule, table, knownIn, known}
 use Rattle.machine.specs.Operands.{past, Operands, operandsOf}
 use Rattle.rules.specs.Rules.{knownRules, forbiddenOf}
 use Rattle.actions.specs.Actions.{actionOf}
-use Rattle.results.specs.Ends.{End}
+use Rattle.machine.proofs.CommandBytes.{same}
+use Rattle.results.specs.Ends.{End, commandDone, systemCalled, halted, resumed, alarmed}
 use Rattle.commands.specs.Execution.{execOf, actionEnd}
 use Rattle.commands.proofs.Laws.{exec-action}
 use Rattle.sure.specs.Answers.{OnlyR15}
@@ -49,12 +51,33 @@ both-modes b s h = go (userMode s)
         rw (p, q)
     go false = ne-eqb b 3 (λ e. omega (arith, e))
 
+-- a byte from 80h on is carried out by no quick way: 01's table has none, and a quiet end is no alarm
+none-above : (b : ℕ) → 0x80 ≤ b → b < 256 → known b ≡ none
+unfolding known knownIn table
+none-above b l h = same known (λ n. none) 0x80 0x80 refl b l (omega arith)
+
+abbrev EndsQuietly : End → Type 0
+EndsQuietly (commandDone r t n) = Unit {0}
+EndsQuietly (systemCalled x r n) = ⊥
+EndsQuietly (halted r n) = ⊥
+EndsQuietly (resumed a n) = ⊥
+EndsQuietly (alarmed k x n) = ⊥
+
+unknown-alarms : (s : ℕ) (map : Map) (b : ℕ) (ks : List Rule) (r : Registers) (m : Memory) (e : End) → known b ≡ none
+    → Carried s map b ks r m e → EndsQuietly e → ⊥
+unfolding actionOf actionEnd
+unknown-alarms s map b ks r m e h c quiet = subst EndsQuietly (rw h at (c .same)) quiet
+
 -- what is carried out ends the command at R15
 pub carried-ends : (s : ℕ) (map : Map) (r : Registers) (m : Memory) (b : ℕ)
     → got b ≡ readBytes (viewBy s map m) Fetch 1 (record { 0 = reg r 15 }) → b < 256 → 0x10 ≤ b
     → (ks : List Rule) → ks ≡ knownRules (known b) → (q : Registers) → q ≡ past 1 r → (e : End)
-    → Carried s map b ks q m e → e ≡ execOf s map r m
-carried-ends s map r m b fetched l h ks rules q byte e c =
-    c .same ∙ exec-action s map r m b fetched l (both-modes b s h) (c .operands)
-    (c .taken ∙ ap (λ (k : List Rule). operandsOf (viewBy s map m) k q) rules
-    ∙ ap (operandsOf (viewBy s map m) (knownRules (known b))) byte)
+    → Carried s map b ks q m e → EndsQuietly e → e ≡ execOf s map r m
+carried-ends s map r m b fetched l h ks rules q byte e c quiet = go (leb 0x80 b) refl
+  where
+    go : (t : Bool) → leb 0x80 b ≡ t → e ≡ execOf s map r m
+    go true p = absurd (unknown-alarms s map b ks q m e (none-above b (leb-true 0x80 b p) l) c quiet)
+    go false p =
+        c .same ∙ exec-action s map r m b fetched (leb-false 0x80 b p) (both-modes b s h) (c .operands)
+        (c .taken ∙ ap (λ (k : List Rule). operandsOf (viewBy s map m) k q) rules
+        ∙ ap (operandsOf (viewBy s map m) (knownRules (known b))) byte)

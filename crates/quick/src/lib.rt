@@ -217,7 +217,7 @@ pub fn command(
     regs: &mut [u32; 16],
     status: u32,
     map: Map,
-    table: &[u16; 123],
+    table: &[u16; 166],
 ) -> Quick
     requires { ⌜ Fits map (now mem) × (now table ≡ tableOf) ⌝ }
     ensures { λ r. ⌜ Quietly status map (now (regs .entry)) (now (mem .entry))
@@ -229,7 +229,7 @@ pub fn command(
     match c {
         CommandByte::Alarm(_, _) => Quick::Unsure,
         CommandByte::Byte(b, found) => {
-            // The commands of one mode, and those of all registers, are below.
+            // The commands of one mode, and those of all registers, are below; floating ones above.
             if b < 0x10 {
                 return Quick::Unsure;
             }

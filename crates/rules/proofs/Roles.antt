@@ -6,7 +6,8 @@ use borrow.Author.Tests.{eqb-true}
 use Rattle.machine.specs.declared.Size.the-variants.{W}
 use Rattle.machine.specs.declared.Role.{Role}
 use Rattle.machine.specs.declared.Role.the-variants.{Value, Address, Destination, Update}
-use Rattle.rules.specs.Rules.{sizeIn, wordIn, addressedBy, readBy, writtenTo}
+use Rattle.machine.specs.Code.{readBy, writtenTo}
+use Rattle.rules.specs.Rules.{sizeIn, wordIn, addressedBy}
 
 module _ (P : Role → Type 0) where
   pub written-role : P Destination → P Update → (k : Role) → writtenTo k ≡ true → P k

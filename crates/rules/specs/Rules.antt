@@ -3,7 +3,7 @@
 -- needs.
 use Prim.Native.Nat.{ℕ, zero, suc, _+_, _*_, _/_, _%_}
 use mathlib.Core.Bool.{Bool, true, false, _||_}
-use mathlib.Core.List.{List, [], _∷_}
+use mathlib.Core.List.{List, [], _∷_, _++_}
 use mathlib.Core.Option.{Option, none, some}
 use lib.Dec.{eqb}
 use lib.ListN.{length}
@@ -11,9 +11,12 @@ use Rattle.machine.specs.declared.Size.{Size}
 use Rattle.machine.specs.declared.Size.the-variants.{B, H, W}
 use Rattle.machine.specs.declared.Role.{Role}
 use Rattle.machine.specs.declared.Role.the-variants.{Value, Address, Destination, Update}
+use Rattle.machine.specs.declared.Kind.{Kind}
+use Rattle.machine.specs.declared.Kind.the-variants.{F, D}
 use Rattle.machine.specs.Words.{pick}
 use Rattle.machine.specs.State.{userMode}
 use Rattle.machine.specs.Code.{Rule, Known, known}
+use Rattle.machine.specs.FloatCode.{KnownFloat, knownFloat}
 
 -- ---- How a number reads
 
@@ -52,6 +55,29 @@ abbrev pub knownRules : Option Known → List Rule
 knownRules none = []
 knownRules (some k) = k .operands
 
+-- ---- How the number of a floating command reads
+
+-- the kind in the lowest digit: 1 for F, 2 for D
+abbrev pub kindIn : ℕ → Kind
+kindIn n = pick (eqb (n % 4) 2) D F
+
+-- the roles in the k lowest digits
+unfoldable pub rolesFrom : ℕ → ℕ → List Role
+rolesFrom zero n = []
+rolesFrom (suc k) n = roleIn n ∷ rolesFrom k (n / 16)
+
+abbrev pub rolesIn : ℕ → List Role
+rolesIn n = rolesFrom (countIn n) n
+
+-- those of a table entry; a byte that is unknown has no operands, and stands as F
+abbrev pub knownRoles : Option KnownFloat → List Role
+knownRoles none = []
+knownRoles (some k) = k .roles
+
+abbrev pub knownKind : Option KnownFloat → Kind
+knownKind none = F
+knownKind (some k) = k .kind
+
 -- ---- The number of a list of rules
 
 -- a digit is the sum of its size and its role
@@ -76,6 +102,20 @@ digitsOf (r ∷ rs) = sizeNumber (r .size) + roleNumber (r .role) + 16 * digitsO
 abbrev pub rulesNumber : List Rule → ℕ
 rulesNumber rs = 0x1000 * length rs + digitsOf rs
 
+-- of a floating command, whose operands are all of its kind
+
+abbrev pub kindNumber : Kind → ℕ
+kindNumber F = 1
+kindNumber D = 2
+
+abbrev pub roleDigits : Kind → List Role → ℕ
+roleDigits k [] = 0
+roleDigits k (r ∷ rs) = kindNumber k + roleNumber r + 16 * roleDigits k rs
+
+abbrev pub floatNumber : Option KnownFloat → ℕ
+floatNumber none = 0
+floatNumber (some k) = 0x1000 * length (k .roles) + roleDigits (k .kind) (k .roles)
+
 -- ---- The table
 
 -- the numbers of k bytes from b on
@@ -83,9 +123,14 @@ unfoldable pub numbersFrom : ℕ → ℕ → List ℕ
 numbersFrom zero b = []
 numbersFrom (suc k) b = rulesNumber (knownRules (known b)) ∷ numbersFrom k (suc b)
 
--- each byte from 0x00 to 0x7A, the last that is known
+-- F-6: of the floating commands, k bytes from b on
+unfoldable pub floatNumbersFrom : ℕ → ℕ → List ℕ
+floatNumbersFrom zero b = []
+floatNumbersFrom (suc k) b = floatNumber (knownFloat b) ∷ floatNumbersFrom k (suc b)
+
+-- each byte from 0x00 to 0x7F, and from 0x80 to 0xA5, the last that is known
 unfoldable pub tableOf : List ℕ
-tableOf = numbersFrom 123 0
+tableOf = numbersFrom 0x80 0 ++ floatNumbersFrom 0x26 0x80
 
 -- ---- Roles
 
@@ -95,20 +140,6 @@ addressedBy Value = false
 addressedBy Address = true
 addressedBy Destination = false
 addressedBy Update = false
-
--- a role takes its operand's value
-abbrev pub readBy : Role → Bool
-readBy Value = true
-readBy Address = false
-readBy Destination = false
-readBy Update = true
-
--- a result goes to an operand of the role
-abbrev pub writtenTo : Role → Bool
-writtenTo Value = false
-writtenTo Address = false
-writtenTo Destination = true
-writtenTo Update = true
 
 -- ---- The mode
 

@@ -1,17 +1,20 @@
 // The constant table: operand count, sizes and roles of each command byte; and the mode that a byte
 // needs.
 ghost use mathlib.Core.Path.{_≡_};
-ghost use Prim.Native.Nat.{_<_};
-ghost use Rattle.machine.specs.Code.{known};
-ghost use Rattle.rules.specs.Rules.{addressedBy, countIn, forbiddenOf, knownRules, readBy, roleIn, rulesIn};
-ghost use Rattle.rules.specs.Rules.{sizeIn, tableOf, wordIn, writtenTo};
+ghost use Prim.Native.Nat.{_<_, _≤_};
+ghost use Rattle.machine.specs.Code.{known, readBy, writtenTo};
+ghost use Rattle.machine.specs.FloatCode.{knownFloat};
+ghost use Rattle.rules.specs.Rules.{addressedBy, countIn, forbiddenOf, kindIn, knownKind, knownRoles};
+ghost use Rattle.rules.specs.Rules.{knownRules, roleIn, rolesIn, rulesIn, sizeIn, tableOf, wordIn};
+use machine::Kind;
 use machine::Role;
 use machine::Size;
 
 // Four hexadecimal digits a row: the operand count, then a digit for the third, the second and the
 // first operand. A digit is 1 for B, 2 for H, 3 for W, and 0 for a value, 4 for an address, 8 for a
-// destination, 12 for an update. An unknown byte has no operands, and from 0x7B on all are unknown.
-const RULES: [u16; 123] = [
+// destination, 12 for an update. From 0x80 on, where the commands are floating, a digit has 1 for F or
+// 2 for D in place of the size. An unknown byte has no operands; from 0xA6 on all are unknown.
+const RULES: [u16; 166] = [
     0x0000, // 0x00: HALT, PUSHR, POPR, system call
     0x0000,
     0x0000,
@@ -135,21 +138,78 @@ const RULES: [u16; 123] = [
     0x1007,
     0x1007,
     0x0000,
+    0x0000,
+    0x0000,
+    0x0000,
+    0x0000,
+    0x0000,
+    0x20d1, // 0x80: ADD of F and D
+    0x20e2,
+    0x0000,
+    0x0000,
+    0x3911,
+    0x3a22,
+    0x0000,
+    0x0000,
+    0x20d1, // 0x88: SUB of F and D
+    0x20e2,
+    0x0000,
+    0x0000,
+    0x3911,
+    0x3a22,
+    0x0000,
+    0x0000,
+    0x20d1, // 0x90: MULT of F and D
+    0x20e2,
+    0x0000,
+    0x0000,
+    0x3911,
+    0x3a22,
+    0x0000,
+    0x0000,
+    0x20d1, // 0x98: DIV of F and D
+    0x20e2,
+    0x0000,
+    0x0000,
+    0x3911,
+    0x3a22,
+    0x0000,
+    0x0000,
+    0x2091, // 0xA0: MOVE of F and D
+    0x20a2,
+    0x0000,
+    0x0000,
+    0x2011, // 0xA4: CMP of F and D
+    0x2022,
 ];
 
 // The table, made once and lent to each command.
-pub fn table() -> [u16; 123]
+pub fn table() -> [u16; 166]
     ensures { λ r. ⌜ r ≡ tableOf ⌝ }
 {
     RULES
 }
 
-pub fn rules_of(table: &[u16; 123], b: u32) -> u32
+// The rules of a byte that is no floating command.
+pub fn rules_of(table: &[u16; 166], b: u32) -> u32
     requires { ⌜ (now table ≡ tableOf) × (b < 256) ⌝ }
     ensures rules { λ r. ⌜ rulesIn r ≡ knownRules (known b) ⌝ }
     ensures small { λ r. ⌜ r < 65536 ⌝ }
 {
-    if b < 123 {
+    if b < 0x80 {
+        return table[b as usize] as u32;
+    }
+    0
+}
+
+// The rules of a byte from 0x80 on: a floating command's, all of its kind.
+pub fn float_rules_of(table: &[u16; 166], b: u32) -> u32
+    requires { ⌜ (now table ≡ tableOf) × (0x80 ≤ b) × (b < 256) ⌝ }
+    ensures kind { λ r. ⌜ kindIn r ≡ knownKind (knownFloat b) ⌝ }
+    ensures roles { λ r. ⌜ rolesIn r ≡ knownRoles (knownFloat b) ⌝ }
+    ensures small { λ r. ⌜ r < 65536 ⌝ }
+{
+    if b < 0xA6 {
         return table[b as usize] as u32;
     }
     0
@@ -171,6 +231,17 @@ pub fn size_in(rules: u32) -> Size
         1 => Size::B,
         2 => Size::H,
         _ => Size::W,
+    }
+}
+
+// The kind in the lowest digit of a floating command's rules.
+pub fn kind_in(rules: u32) -> Kind
+    ensures { λ r. ⌜ r ≡ kindIn rules ⌝ }
+{
+    let k = rules % 4;
+    match k {
+        2 => Kind::D,
+        _ => Kind::F,
     }
 }
 

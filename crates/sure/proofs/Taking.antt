@@ -13,7 +13,8 @@ use Rattle.machine.specs.Alarms.{got}
 use Rattle.machine.specs.Map.{View, readBytes}
 use Rattle.machine.specs.Operands.{Fields, immediate, register, memory, past, fieldsAt, operandAt, valueIn, addressIn}
 use Rattle.machine.specs.Operands.{targetIn, takenBy}
-use Rattle.rules.specs.Rules.{addressedBy, readBy, writtenTo}
+use Rattle.machine.specs.Code.{readBy, writtenTo}
+use Rattle.rules.specs.Rules.{addressedBy}
 use Rattle.rules.proofs.Roles.{written-role, unaddressed-role}
 use Rattle.sure.specs.declared.Spot.{Spot}
 use Rattle.sure.specs.declared.Spot.the-variants as spot

@@ -2,7 +2,9 @@
 //! anything that document 01 or a request of document 02 names isn't reached.
 
 use model::cover::Cover;
-use model::{breakpoint_table, fetch_table, flag_table, joint_table, list_table, shift_table, store, table};
+use model::{
+    breakpoint_table, fetch_table, flag_table, float_table, joint_table, list_table, shift_table, store, table,
+};
 
 fn main() {
     let path = std::env::args().nth(1).expect("usage: coverage FILE");
@@ -24,6 +26,7 @@ fn main() {
     flag_table::flags(&cover, &mut all);
     shift_table::shifts(&cover, &mut all);
     fetch_table::fetches(&cover, &mut all);
+    float_table::floats(&cover, &mut all);
     breakpoint_table::breakpoints(&cover, &mut all);
     println!("{} cells to reach, {} missing, {} impossible by the rules", all.cells, all.missing.len(), all.impossible);
     for name in &all.missing {

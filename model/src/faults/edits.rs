@@ -33,7 +33,7 @@ pub type Sources = BTreeMap<String, String>;
 
 /// The modules that make up the desk, and that a copy may have in its own form.
 /// `state` isn't among them: its types are those of the stored cases.
-pub const MODULES: [&str; 13] = [
+pub const MODULES: [&str; 14] = [
     "arith",
     "breakpoints",
     "checks",
@@ -41,6 +41,7 @@ pub const MODULES: [&str; 13] = [
     "commands",
     "desk",
     "entry",
+    "floats",
     "joint",
     "load",
     "map",

@@ -4,7 +4,7 @@ use super::grid::good_desk;
 use super::layout::Layout;
 use super::pick::Seen;
 use super::traps::trap_desk;
-use super::{family_rng, known_bytes};
+use super::{family_rng, integer_bytes, known_bytes};
 use crate::asm;
 use crate::case::{Call, Case};
 use crate::code::{decode, Command, Op, Role};
@@ -13,7 +13,7 @@ use crate::state::*;
 use crate::work::Part;
 
 /// The parts of a command where 8 to 11, 15 and 21 can come, and the numbers there.
-fn parts(known: &Command) -> Vec<(Part, u32)> {
+pub fn parts(known: &Command) -> Vec<(Part, u32)> {
     let mut list = Vec::new();
     let mut add = |part, numbers: &[u32]| list.extend(numbers.iter().map(|number| (part, *number)));
     for (i, (role, _)) in known.operands.iter().enumerate() {
@@ -68,21 +68,21 @@ pub fn failing_command(desk: &mut Layout, byte: u8, part: Part, number: u32) -> 
     let mut seen: Seen = desk.maker.state.registers;
     seen[PC] = seen[PC].wrapping_add(1);
     let mut operands = Vec::new();
-    for (i, (role, size)) in known.operands.iter().enumerate() {
+    for (i, (role, format)) in known.operands.iter().enumerate() {
         seen[PC] = seen[PC].wrapping_add(6);
         let place = i as u32 + 1;
         let written = matches!(role, Role::Destination | Role::Both);
         let operand = if part == Part::Indirect(place) {
             desk.lost_word(&seen, number)
         } else if part == Part::Value(place) || part == Part::Write && written {
-            let target = desk.failing(*size, number);
-            desk.aimed(&mut seen, *size, target)
+            let target = desk.failing(format.size(), number);
+            desk.aimed(&mut seen, format.size(), target)
         } else if part == Part::Operation && place == 1 {
             asm::immediate(0)
         } else if known.op == Op::Div && place == 1 {
             asm::immediate(3)
         } else {
-            desk.fine(&mut seen, known.op, *role, *size)
+            desk.fine(&mut seen, known.op, *role, *format)
         };
         operands.push(operand);
     }
@@ -131,7 +131,7 @@ pub fn alarms() -> Vec<Case> {
     let mut rng = family_rng("alarms");
     let mut items = Vec::new();
     let mut family: Option<(Op, usize)> = None;
-    for byte in known_bytes() {
+    for byte in integer_bytes() {
         let known = decode(byte).unwrap();
         if matches!(known.op, Op::Halt | Op::Resume) {
             continue;
@@ -189,7 +189,7 @@ pub fn alarms() -> Vec<Case> {
 pub fn kernel_stops() -> Vec<Case> {
     let mut rng = family_rng("kernel stops");
     let mut cases = Vec::new();
-    for byte in known_bytes() {
+    for byte in integer_bytes() {
         let known = decode(byte).unwrap();
         let mut list = parts(&known);
         list.retain(|(_, number)| *number == 8 || *number == 15);

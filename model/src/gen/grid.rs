@@ -1,12 +1,14 @@
 //! Every command, form and width in both modes; every flag outcome.
 
-use super::layout::{layout, value, Kind, Layout, DATA_KINDS};
+use super::float_values::{any_bits, bytes_of};
+use super::layout::{layout, Kind, Layout, DATA_KINDS};
 use super::pick::{forms_of, reason_of};
-use super::{family_rng, known_bytes, shuffle};
+use super::{family_rng, integer_bytes, known_bytes, shuffle};
 use crate::arith;
 use crate::asm;
 use crate::case::Case;
-use crate::code::{decode, Command, Op, Role};
+use crate::code::{decode, Command, Format, Op, Role};
+use crate::floats::{self, Number};
 use crate::rng::Rng;
 use crate::state::*;
 
@@ -34,7 +36,7 @@ pub fn grid() -> Vec<Case> {
     let mut cases = Vec::new();
     for kernel in [false, true] {
         let mut items = Vec::new();
-        for byte in known_bytes() {
+        for byte in integer_bytes() {
             let known = decode(byte).unwrap();
             if matches!(known.op, Op::Halt | Op::Resume | Op::SystemCall) {
                 continue;
@@ -42,8 +44,8 @@ pub fn grid() -> Vec<Case> {
             if known.operands.is_empty() {
                 items.extend([(byte, None); 4]);
             }
-            for (place, (role, _)) in known.operands.iter().enumerate() {
-                for form in forms_of(*role) {
+            for (place, (role, format)) in known.operands.iter().enumerate() {
+                for form in forms_of(*role, *format) {
                     items.push((byte, Some((place, *form))));
                 }
             }
@@ -89,21 +91,24 @@ impl Layout {
 }
 
 /// The flags of a command for operand values, or `None` for DIV by zero.
-fn flags_of(known: &Command, first: u32, second: u32) -> Option<u32> {
-    let size = known.operands[0].1;
-    arith::apply(known.op, first, second, size).map(|(_, flags)| flags)
+fn flags_of(known: &Command, first: u64, second: u64) -> Option<u32> {
+    let format = known.operands[0].1;
+    if let Op::Float(op) = known.op {
+        return Some(floats::apply(op, Number::of(format, first), Number::of(format, second)).1);
+    }
+    arith::apply(known.op, first as u32, second as u32, format.size()).map(|(_, flags)| flags)
 }
 
 /// Flag outcomes that a command can have, each with operand values.
-pub fn outcomes(known: &Command, rng: &mut Rng) -> Vec<(u32, u32, u32)> {
-    let size = known.operands[0].1;
-    let mut found: Vec<(u32, u32, u32)> = Vec::new();
+pub fn outcomes(known: &Command, rng: &mut Rng) -> Vec<(u32, u64, u64)> {
+    let format = known.operands[0].1;
+    let mut found: Vec<(u32, u64, u64)> = Vec::new();
     for _ in 0..3000 {
-        let mut first = value(rng, size);
+        let mut first = any_bits(rng, format);
         if matches!(known.op, Op::Sh | Op::Rot) {
-            first = rng.below(80).wrapping_sub(40);
+            first = u64::from(rng.below(80).wrapping_sub(40));
         }
-        let second = value(rng, size);
+        let second = any_bits(rng, format);
         if let Some(flags) = flags_of(known, first, second) {
             if !found.iter().any(|outcome| outcome.0 == flags) {
                 found.push((flags, first, second));
@@ -144,15 +149,15 @@ pub fn flags() -> Vec<Case> {
             }
             let known = decode(byte).unwrap();
             let mut operands = Vec::new();
-            for (place, (role, size)) in known.operands.iter().enumerate() {
+            for (place, (role, format)) in known.operands.iter().enumerate() {
                 let value = if place == 0 { first } else { second };
                 operands.push(match role {
-                    Role::Value if desk.maker.rng.chance(60) => asm::immediate(value),
-                    Role::Address => asm::absolute(value),
+                    Role::Value if *format != Format::D && desk.maker.rng.chance(60) => asm::immediate(value as u32),
+                    Role::Address => asm::absolute(value as u32),
                     Role::Destination if desk.maker.rng.chance(50) => asm::register(desk.maker.rng.below(14) as u8),
                     _ => {
-                        let at = desk.free_address(*size, reason_of(*role));
-                        desk.lay_at(at, &value.to_be_bytes()[4 - *size as usize..]);
+                        let at = desk.free_address(format.size(), reason_of(*role));
+                        desk.lay_at(at, &bytes_of(value, *format));
                         asm::absolute(at)
                     }
                 });

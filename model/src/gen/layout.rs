@@ -1,6 +1,8 @@
 //! Layouts of memory, blocks and map.
 
+use super::float_values::any_number;
 use super::maker::Maker;
+use crate::code::Format;
 use crate::map::{Reason, DATA};
 use crate::rng::Rng;
 use crate::state::*;
@@ -137,6 +139,7 @@ impl Layout {
             state.registers[i] = match i {
                 0..=3 => self.maker.rng.below(12),
                 4..=9 | 14 => self.address(self.maker.state.kernel(), 4, Reason::Write),
+                _ if self.maker.rng.chance(40) => any_number(&mut self.maker.rng, Format::F) as u32,
                 _ => value(&mut self.maker.rng, 4),
             };
         }
@@ -156,7 +159,7 @@ impl Layout {
         let page = self.maker.rng.pick(&pages);
         let crossing = pages.contains(&(page + 1)) && self.maker.rng.chance(30);
         let offset =
-            if crossing { 512 - self.maker.rng.below(size).min(3) } else { self.maker.rng.below(512 - size + 1) };
+            if crossing { 512 - self.maker.rng.below(size).min(7) } else { self.maker.rng.below(512 - size + 1) };
         page * 512 + offset
     }
 }

@@ -7,6 +7,13 @@ pub mod any_points;
 pub mod data_pages;
 pub mod entries;
 pub mod fetches;
+pub mod float_alarms;
+pub mod float_flags;
+pub mod float_near;
+pub mod float_pages;
+pub mod float_pairs;
+pub mod float_places;
+pub mod float_values;
 pub mod grid;
 pub mod layout;
 pub mod list_programs;
@@ -33,7 +40,7 @@ pub mod traps;
 pub mod walks;
 
 use crate::case::Case;
-use crate::code::decode;
+use crate::code::{decode, Command, Op};
 use crate::rng::Rng;
 
 /// Every known command byte.
@@ -43,6 +50,20 @@ pub fn known_bytes() -> Vec<u8> {
 
 pub fn unknown_bytes() -> Vec<u8> {
     (0..=255).filter(|byte| decode(*byte).is_none()).collect()
+}
+
+fn floating(byte: &u8) -> bool {
+    matches!(decode(*byte), Some(Command { op: Op::Float(_), .. }))
+}
+
+/// The commands on floating numbers.
+pub fn float_bytes() -> Vec<u8> {
+    known_bytes().into_iter().filter(floating).collect()
+}
+
+/// Every known command byte but those of floating numbers, which families of their own have.
+pub fn integer_bytes() -> Vec<u8> {
+    known_bytes().into_iter().filter(|byte| !floating(byte)).collect()
 }
 
 /// A generator of its own for each family, so that one doesn't move another.
@@ -106,5 +127,14 @@ pub fn all() -> Vec<(&'static str, Vec<Case>)> {
         ("points stops", point_levels::stops()),
         ("points refused", point_refusals::refusals()),
         ("points walks", point_walks::walks()),
+        ("float pairs", float_pairs::pairs()),
+        ("float random", float_pairs::random()),
+        ("float moves", float_pairs::moves()),
+        ("float near", float_near::near()),
+        ("float flags", float_flags::flags_before()),
+        ("float forms", float_alarms::forms()),
+        ("float alarms", float_alarms::alarms()),
+        ("float places", float_places::places()),
+        ("float pages", float_pages::pages()),
     ]
 }

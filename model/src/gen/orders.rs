@@ -7,18 +7,19 @@ use super::traps::{trap_desk, RULES};
 use super::{family_rng, known_bytes};
 use crate::asm;
 use crate::case::{Call, Case};
-use crate::code::{decode, Op, Role};
+use crate::code::{decode, Format, Op, Role};
 use crate::state::*;
 
 /// One operand that may be fine, break a rule, or fail at its word or place.
-fn any_operand(desk: &mut Layout, seen: &mut Seen, op: Op, role: Role, size: u32) -> crate::operand::Fields {
+fn any_operand(desk: &mut Layout, seen: &mut Seen, op: Op, role: Role, format: Format) -> crate::operand::Fields {
+    let size = format.size();
     let number = 8 + desk.maker.rng.below(4);
     match desk.maker.rng.below(10) {
         0 | 1 => {
             let rule = desk.maker.rng.below(RULES);
-            match desk.broken(rule, role, size) {
+            match desk.broken(rule, role, format) {
                 Some(fields) => fields,
-                None => desk.fine(seen, op, role, size),
+                None => desk.fine(seen, op, role, format),
             }
         }
         2 | 3 => desk.lost_word(seen, number),
@@ -27,7 +28,7 @@ fn any_operand(desk: &mut Layout, seen: &mut Seen, op: Op, role: Role, size: u32
             desk.aimed(seen, size, target)
         }
         7 if op == Op::Div && role == Role::Value => asm::immediate(0),
-        _ => desk.fine(seen, op, role, size),
+        _ => desk.fine(seen, op, role, format),
     }
 }
 
@@ -39,7 +40,8 @@ fn div_by_zero(cases: &mut Vec<Case>) {
         let mut desk = if kernel { good_desk(&mut rng, true) } else { trap_desk(&mut rng) };
         let byte = 0x58 + (round % 3) as u8 + if round % 2 == 0 { 4 } else { 0 };
         let known = decode(byte).unwrap();
-        let size = known.operands[0].1;
+        let format = known.operands[0].1;
+        let size = format.size();
         let number = 8 + round / 2 % 4;
         let mut seen = desk.maker.state.registers;
         seen[PC] = seen[PC].wrapping_add(7);
@@ -47,7 +49,7 @@ fn div_by_zero(cases: &mut Vec<Case>) {
         for (role, _) in &known.operands[1..] {
             seen[PC] = seen[PC].wrapping_add(6);
             operands.push(if *role == Role::Value {
-                desk.fine(&mut seen, known.op, *role, size)
+                desk.fine(&mut seen, known.op, *role, format)
             } else {
                 let number = if *role == Role::Both && round % 5 > 0 { 11 } else { number };
                 let target = desk.failing(size, number);
@@ -94,9 +96,9 @@ pub fn orders() -> Vec<Case> {
         let mut seen = desk.maker.state.registers;
         seen[PC] = seen[PC].wrapping_add(1);
         let mut operands = Vec::new();
-        for (role, size) in &known.operands {
+        for (role, format) in &known.operands {
             seen[PC] = seen[PC].wrapping_add(6);
-            operands.push(any_operand(&mut desk, &mut seen, known.op, *role, *size));
+            operands.push(any_operand(&mut desk, &mut seen, known.op, *role, *format));
         }
         let code = asm::command(byte, &operands);
         desk.maker.code(&code);

@@ -1,19 +1,30 @@
 //! Picks operands and commands that can run in a layout.
 
-use super::layout::{value, Layout, DATA_KINDS};
+use super::float_values::{any_bits, bytes_of};
+use super::layout::{Layout, DATA_KINDS};
 use crate::arith;
 use crate::asm;
-use crate::code::{decode, Op, Role};
+use crate::code::{decode, Format, Op, Role};
 use crate::map::Reason;
 use crate::operand::Fields;
 use crate::state::*;
 
-/// Forms that a role allows.
-pub fn forms_of(role: Role) -> &'static [u8] {
+/// Forms that a role and a format allow.
+pub fn forms_of(role: Role, format: Format) -> &'static [u8] {
     match role {
+        Role::Value if format == Format::D => &[0, 2, 3, 4, 5, 6, 7, 8],
         Role::Value => &[0, 1, 2, 3, 4, 5, 6, 7, 8],
         Role::Address => &[0, 3, 4, 5, 6, 7, 8],
         Role::Destination | Role::Both => &[0, 2, 3, 4, 5, 6, 7, 8],
+    }
+}
+
+/// The registers that form 2 allows for a format: so many from R0 on.
+pub fn registers_of(format: Format) -> u32 {
+    match format {
+        Format::F => 15,
+        Format::D => 14,
+        _ => 16,
     }
 }
 
@@ -116,7 +127,8 @@ impl Layout {
     }
 
     /// Fields of an operand in a given form. `seen[15]` is the address after it.
-    pub fn operand(&mut self, seen: &mut Seen, op: Op, role: Role, size: u32, form: u8) -> Fields {
+    pub fn operand(&mut self, seen: &mut Seen, op: Op, role: Role, format: Format, form: u8) -> Fields {
+        let size = format.size();
         let reason = reason_of(role);
         let jumps = matches!(op, Op::Jump(_) | Op::Call);
         let target = if jumps {
@@ -134,12 +146,12 @@ impl Layout {
         let index = seen[y as usize].wrapping_mul(size);
         let used = (role == Role::Value || role == Role::Both) && !matches!(form, 1 | 2 | 7 | 8);
         if used && self.maker.rng.chance(50) {
-            let value = value(&mut self.maker.rng, size);
-            self.lay_at(target, &value.to_be_bytes()[4 - size as usize..]);
+            let value = any_bits(&mut self.maker.rng, format);
+            self.lay_at(target, &bytes_of(value, format));
         }
         match form {
             1 => {
-                let mut chosen = value(&mut self.maker.rng, size);
+                let mut chosen = any_bits(&mut self.maker.rng, format) as u32;
                 if chosen == 0 && op == Op::Div && self.maker.rng.chance(80) {
                     chosen = 3;
                 }
@@ -152,7 +164,7 @@ impl Layout {
                 if reason == Reason::Write && x == 15 && self.maker.rng.chance(60) {
                     x = 10;
                 }
-                asm::register(x)
+                asm::register(x % registers_of(format) as u8)
             }
             0 | 3..=6 => self.addressed(seen, target, form, (x, y), index),
             7 => {
@@ -178,13 +190,13 @@ impl Layout {
         self.stack_ready(known.op, &seen);
         let mut operands = Vec::new();
         seen[PC] = seen[PC].wrapping_add(1);
-        for (i, (role, size)) in known.operands.iter().enumerate() {
+        for (i, (role, format)) in known.operands.iter().enumerate() {
             seen[PC] = seen[PC].wrapping_add(6);
             let form = match forced {
                 Some((place, form)) if place == i => form,
-                _ => self.maker.rng.pick(forms_of(*role)),
+                _ => self.maker.rng.pick(forms_of(*role, *format)),
             };
-            operands.push(self.operand(&mut seen, known.op, *role, *size, form));
+            operands.push(self.operand(&mut seen, known.op, *role, *format, form));
         }
         asm::command(byte, &operands)
     }

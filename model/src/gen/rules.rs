@@ -6,16 +6,16 @@ use super::traps::RULES;
 use super::{family_rng, known_bytes, shuffle, unknown_bytes, until};
 use crate::asm;
 use crate::case::{Call, Case};
-use crate::code::{decode, Role};
+use crate::code::{decode, Format, Role};
 use crate::rng::Rng;
 use crate::state::*;
 
-/// Commands with a role and L, and the operand's place (from 0).
-fn users(role: Role, size: u32) -> Vec<(u8, usize)> {
+/// Commands with a role and a format, and the operand's place (from 0).
+fn users(role: Role, format: Format) -> Vec<(u8, usize)> {
     let mut list = Vec::new();
     for byte in known_bytes() {
         for (place, operand) in decode(byte).unwrap().operands.iter().enumerate() {
-            if *operand == (role, size) {
+            if *operand == (role, format) {
                 list.push((byte, place));
             }
         }
@@ -23,18 +23,18 @@ fn users(role: Role, size: u32) -> Vec<(u8, usize)> {
     list
 }
 
-/// Every broken form rule for every role and L. In user mode the handler adds
+/// Every broken form rule for every role and format. In user mode the handler adds
 /// the command's length to the saved R15 and resumes; in kernel mode each
 /// stop is followed by a fresh desk.
 pub fn rules() -> Vec<Case> {
     let mut rng = family_rng("rules");
     let mut items = Vec::new();
     for role in [Role::Value, Role::Address, Role::Destination, Role::Both] {
-        for size in [1, 2, 4] {
-            let list = users(role, size);
+        for format in Format::ALL {
+            let list = users(role, format);
             for rule in 0..RULES {
                 if !list.is_empty() {
-                    items.push((role, size, rule));
+                    items.push((role, format, rule));
                 }
             }
         }
@@ -43,8 +43,8 @@ pub fn rules() -> Vec<Case> {
     for kernel in [false, true] {
         // By the command's length, since one handler serves a case.
         let mut by_length: Vec<Vec<(u8, usize, u32)>> = vec![Vec::new(); 3];
-        for (role, size, rule) in &items {
-            let mut list = users(*role, *size);
+        for (role, format, rule) in &items {
+            let mut list = users(*role, *format);
             list.retain(|(byte, _)| *byte != 3 && *byte != 5 || kernel == (*byte == 5));
             let (byte, place) = rng.pick(&list);
             by_length[decode(byte).unwrap().operands.len() - 1].push((byte, place, *rule));
@@ -83,12 +83,12 @@ fn broken_command(desk: &mut Layout, byte: u8, place: usize, rule: u32) -> Optio
     let known = decode(byte).unwrap();
     let mut seen = desk.maker.state.registers;
     let mut operands = Vec::new();
-    for (i, (role, size)) in known.operands.iter().enumerate() {
+    for (i, (role, format)) in known.operands.iter().enumerate() {
         operands.push(if i == place {
-            desk.broken(rule, *role, *size)?
+            desk.broken(rule, *role, *format)?
         } else {
-            let form = if *role == Role::Value { 1 } else { 0 };
-            desk.operand(&mut seen, known.op, *role, *size, form)
+            let form = if *role == Role::Value && *format != Format::D { 1 } else { 0 };
+            desk.operand(&mut seen, known.op, *role, *format, form)
         });
     }
     Some(asm::command(byte, &operands))

@@ -188,13 +188,13 @@ fn r15_results(rng: &mut Rng, cases: &mut Vec<Case>) {
         desk.maker.begin(state);
         let mut operands = Vec::new();
         let mut seen = state.registers;
-        for (i, (role, size)) in known.operands.iter().enumerate() {
+        for (i, (role, format)) in known.operands.iter().enumerate() {
             seen[PC] = state.registers[PC] + 1 + 6 * (i as u32 + 1);
             operands.push(if i + 1 == known.operands.len() {
                 asm::register(15)
             } else {
                 let form = if *role == crate::code::Role::Value { 1 } else { 3 };
-                desk.operand(&mut seen, known.op, *role, *size, form)
+                desk.operand(&mut seen, known.op, *role, *format, form)
             });
         }
         desk.maker.code(&command(byte, &operands));

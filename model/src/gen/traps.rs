@@ -3,7 +3,7 @@
 use super::layout::{layout, value, Kind, Layout, DATA_KINDS};
 use super::pick::{forms_of, reason_of, Seen};
 use crate::asm;
-use crate::code::{Op, Role};
+use crate::code::{Format, Op, Role};
 use crate::map::Reason;
 use crate::operand::Fields;
 use crate::rng::Rng;
@@ -122,19 +122,21 @@ impl Layout {
     }
 
     /// An operand that is fine; steps use registers that other picks leave alone.
-    pub fn fine(&mut self, seen: &mut Seen, op: Op, role: Role, size: u32) -> Fields {
-        let form = self.maker.rng.pick(forms_of(role));
+    pub fn fine(&mut self, seen: &mut Seen, op: Op, role: Role, format: Format) -> Fields {
+        let size = format.size();
+        let form = self.maker.rng.pick(forms_of(role, format));
         if form >= 7 {
             let target = self.free_address(size, reason_of(role));
             let (x, y) = (self.maker.rng.below(12) as u8, self.maker.rng.below(12) as u8);
             return self.aimed_in(seen, size, target, form, x, y, 0);
         }
-        self.operand(seen, op, role, size, form)
+        self.operand(seen, op, role, format, form)
     }
 
-    /// An operand that breaks a form rule for its role and L, by a number
+    /// An operand that breaks a form rule for its role and format, by a number
     /// from 0 on; `None` when the rule can't be broken there.
-    pub fn broken(&mut self, rule: u32, role: Role, size: u32) -> Option<Fields> {
+    pub fn broken(&mut self, rule: u32, role: Role, format: Format) -> Option<Fields> {
+        let size = format.size();
         let at = self.free_address(4, Reason::Write);
         let written = role == Role::Destination || role == Role::Both;
         let some = 1 + self.maker.rng.below(15) as u8;
@@ -146,15 +148,15 @@ impl Layout {
             1 => f(0, 0, some, at),
             2 if written => f(1, 0, 0, self.maker.rng.below(256)),
             3 if role == Role::Address => f(1, 0, 0, at),
-            4 if role == Role::Value => f(1, some, 0, 1),
-            5 if role == Role::Value => f(1, 0, some, 1),
+            4 if role == Role::Value && format != Format::D => f(1, some, 0, 1),
+            5 if role == Role::Value && format != Format::D => f(1, 0, some, 1),
             6 if role == Role::Value && size < 4 => {
                 let high = 8 * size + self.maker.rng.below(32 - 8 * size);
                 f(1, 0, 0, 1 << high | self.maker.rng.below(256))
             }
             7 if role == Role::Address => f(2, some, 0, 0),
-            8 if role != Role::Address => f(2, self.maker.rng.below(15) as u8, some, 0),
-            9 if role != Role::Address => f(2, self.maker.rng.below(15) as u8, 0, bit),
+            8 if role != Role::Address => f(2, self.maker.rng.below(14) as u8, some, 0),
+            9 if role != Role::Address => f(2, self.maker.rng.below(14) as u8, 0, bit),
             10 => f(3, 0, some, at),
             11 => f(5, 0, some, at),
             12 => f(7, 15, 0, 0),
@@ -164,9 +166,13 @@ impl Layout {
             16 => f(9, 0, 0, at),
             17 => f(10 + self.maker.rng.below(246) as u8, some, 0, at),
             18 => f(8 + 8 * (1 + self.maker.rng.below(30)) as u8, 0, 0, at),
+            19 if role == Role::Value && format == Format::D => f(1, 0, 0, bit),
+            20 if format == Format::F => f(2, 15, 0, 0),
+            21 if format == Format::D => f(2, 14, 0, 0),
+            22 if format == Format::D => f(2, 15, 0, 0),
             _ => None,
         }
     }
 }
 
-pub const RULES: u32 = 19;
+pub const RULES: u32 = 23;

@@ -42,9 +42,9 @@ fn user_command(desk: &mut Layout, bytes: &[u8]) -> Vec<u8> {
             if !known.operands.is_empty() {
                 let place = desk.maker.rng.below(known.operands.len() as u32) as usize;
                 let rule = desk.maker.rng.below(RULES);
-                let (role, size) = known.operands[place];
+                let (role, format) = known.operands[place];
                 let mut code = desk.pick_command(byte, None);
-                if let Some(fields) = desk.broken(rule, role, size) {
+                if let Some(fields) = desk.broken(rule, role, format) {
                     code[1 + 6 * place..7 + 6 * place].copy_from_slice(&fields.bytes());
                 }
                 return code;

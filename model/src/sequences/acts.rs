@@ -3,8 +3,9 @@
 
 use super::session::Session;
 use super::*;
-use crate::code::decode;
+use crate::code::{decode, Format};
 use crate::gen::any_points::{ahead, any_points, any_steps};
+use crate::gen::float_values::{any_number, bytes_of};
 use crate::gen::known_bytes;
 use crate::gen::refusals::{any_level, spoil};
 use crate::rng::Rng;
@@ -116,14 +117,18 @@ pub fn code(rng: &mut Rng, bytes: &[u8], length: u32) -> Vec<u8> {
         let byte = if rng.chance(95) { rng.pick(bytes) } else { rng.word() as u8 };
         code.push(byte);
         let Some(known) = decode(byte) else { continue };
-        for _ in known.operands {
-            let form = if rng.chance(97) { rng.below(9) as u8 } else { rng.word() as u8 };
+        for (_, format) in known.operands {
+            let mut form = if rng.chance(97) { rng.below(9) as u8 } else { rng.word() as u8 };
+            if form == 1 && format == Format::D && rng.chance(80) {
+                form = 0;
+            }
             let pair = match form {
                 0 | 1 => 0,
                 2 | 3 | 5 | 7 | 8 => (rng.below(16) << 4) as u8,
                 _ => rng.word() as u8,
             };
             let z = match form {
+                1 if format.floating() => any_number(rng, Format::F) as u32,
                 1 => rng.below(256),
                 2 | 7 | 8 => 0,
                 _ if rng.chance(85) => rng.below(length),
@@ -152,6 +157,10 @@ pub fn scribble(session: &mut Session, rng: &mut Rng, known: &[u8]) {
     let mut memory = session.memory.clone();
     let (at, bytes) = if rng.chance(60) {
         (session.state.registers[PC], code(rng, known, length))
+    } else if rng.chance(30) {
+        let format = rng.pick(&[Format::F, Format::D]);
+        let bytes = (0..1 + rng.below(6)).flat_map(|_| bytes_of(any_number(rng, format), format)).collect();
+        (rng.below(length), bytes)
     } else {
         let bytes = (0..1 + rng.below(40)).map(|_| rng.word() as u8).collect();
         (rng.below(length), bytes)

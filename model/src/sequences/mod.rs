@@ -7,6 +7,7 @@
 //! (FFFFFFFFh while it runs), four bytes each; the pending set, two bytes.
 
 pub mod acts;
+pub mod floats;
 pub mod lists;
 pub mod pairs;
 pub mod points;

@@ -33,7 +33,8 @@ pub fn sequence(seed: u64, index: u32) -> Sequence {
         0..=19 => walked(rng),
         20..=31 => noise(rng),
         32..=64 => programs(rng),
-        65..=84 => damaged(rng),
+        65..=74 => floats::commands(rng),
+        75..=89 => damaged(rng),
         _ => freshes(rng),
     }
 }

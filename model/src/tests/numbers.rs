@@ -156,7 +156,7 @@ fn numbers_8_to_11() {
 #[test]
 fn number_12() {
     let known: Vec<u8> = (0..=255).filter(|byte| crate::code::decode(*byte).is_some()).collect();
-    assert_eq!(known.len(), 5 + 12 + 2 + 7 * 6 + 2 + 3 + 11);
+    assert_eq!(known.len(), 5 + 12 + 2 + 7 * 6 + 2 + 3 + 11 + 4 * 4 + 2 * 2);
     for byte in (0..=255u8).filter(|byte| !known.contains(byte)) {
         let mut desk = user();
         desk.code(&[byte]);

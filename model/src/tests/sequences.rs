@@ -83,7 +83,7 @@ fn same_sequences_each_time() {
 #[test]
 fn random_sequences_meet_pages_without_commands() {
     let (mut first, mut later) = (0, 0);
-    for index in 0..600 {
+    for index in 0..1200 {
         let sequence = random::sequence(3, index);
         let mut memory = sequence.memory.clone();
         let mut state = sequence.state;

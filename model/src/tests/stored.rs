@@ -13,6 +13,7 @@ fn written_is_read_back() {
     let pairs = gen::pair_refusals::scratches().into_iter().chain(gen::pair_programs::programs());
     let points = gen::point_refusals::refusals().into_iter().chain(gen::point_levels::levels());
     let lists = lists.chain(pairs).chain(gen::fetches::fetches()).chain(points);
+    let lists = lists.chain(gen::float_pairs::random()).chain(gen::float_pages::pages());
     let cases = gen::refusals::refusals().into_iter().chain(gen::entries::interrupts()).chain(lists);
     let pairs: Vec<_> = cases
         .filter(|case| case.image.len() <= store::SMALL)
@@ -37,6 +38,10 @@ fn same_cases_each_time() {
     assert!(gen::data_pages::data_pages() == gen::data_pages::data_pages());
     assert!(gen::points::lists() == gen::points::lists());
     assert!(gen::point_walks::walks() == gen::point_walks::walks());
+    assert!(gen::float_pairs::random() == gen::float_pairs::random());
+    assert!(gen::float_near::near() == gen::float_near::near());
+    assert!(gen::float_alarms::forms() == gen::float_alarms::forms());
+    assert!(gen::float_places::places() == gen::float_places::places());
 }
 
 /// The stored form of runs to breakpoints, byte by byte: held, ended, refused.

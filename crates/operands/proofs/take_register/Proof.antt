@@ -8,7 +8,7 @@ use Rattle.machine.specs.declared.Alarm.the-variants as alarms
 use Rattle.machine.specs.declared.Target.the-variants.{Nowhere, Register}
 use Rattle.machine.specs.Words.{pick}
 use Rattle.machine.specs.Operands.{valueIn, addressIn, targetIn, takenBy}
-use Rattle.rules.specs.Rules.{readBy, writtenTo}
+use Rattle.machine.specs.Code.{readBy, writtenTo}
 use Rattle.rules.proofs.Roles.{written-role, value-role, address-role}
 use Rattle.operands.specs.declared.Taken.the-variants as takes
 use Rattle.operands.specs.Answers.{TakesRegister}

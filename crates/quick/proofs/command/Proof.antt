@@ -29,7 +29,7 @@ returns-3 c =
     let fetched = f .before .before .fetch .ensures in
     carried-ends (s .args .status) (s .args .map) (s .args .regs .now) (s .args .mem .now) _ (rw byte at (fetched .0))
     (rw byte at (fetched .1 .0)) (r .before .if1 .left) _ (r .rules-of .ensures .0) _
-    (rw (p .plus .ensures)) _ (rw (c .before .q .given .1) at (e .carry-out .ensures))
+    (rw (p .plus .ensures)) _ (rw (c .before .q .given .1) at (e .carry-out .ensures)) tt
 
 returns-4 : tie.Need-returns-4
 returns-4 c =

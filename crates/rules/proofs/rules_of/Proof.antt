@@ -10,22 +10,23 @@ use borrow.Author.Tests.{ltb-true}
 use lib.Dec.{ltb}
 use lib.ListN.{getD}
 use Rattle.machine.specs.Code.{table, knownIn, known}
-use Rattle.rules.specs.Rules.{rulesFrom, rulesIn, knownRules, numbersFrom, tableOf}
+use Rattle.machine.specs.FloatCode.{floatTable, knownFloatIn, knownFloat}
+use Rattle.rules.specs.Rules.{rulesFrom, rulesIn, knownRules, numbersFrom, floatNumbersFrom, tableOf}
 use Rattle.machine.proofs.CommandBytes.{same}
 use Rattle.rules.proofs.rules_of.Statement.{statement}
 use Rattle.rules.proofs.rules_of.Tie as tie
 
-below : (b : ℕ) → b < 123 → getD tableOf b 0 < 65536
-unfolding table knownIn known numbersFrom tableOf
-below b h = ltb-true _ _ (same (λ k. ltb (getD tableOf k 0) 65536) (λ k. true) 123 0 refl b (omega arith) h)
+below : (b : ℕ) → b < 0x80 → getD tableOf b 0 < 65536
+unfolding table knownIn known floatTable knownFloatIn knownFloat numbersFrom floatNumbersFrom tableOf
+below b h = ltb-true _ _ (same (λ k. ltb (getD tableOf k 0) 65536) (λ k. true) 0x80 0 refl b (omega arith) h)
 
-rules : (b : ℕ) → b < 123 → rulesIn (getD tableOf b 0) ≡ knownRules (known b)
-unfolding table knownIn known numbersFrom tableOf rulesFrom
-rules b h = same (λ k. rulesIn (getD tableOf k 0)) (λ k. knownRules (known k)) 123 0 refl b (omega arith) h
+rules : (b : ℕ) → b < 0x80 → rulesIn (getD tableOf b 0) ≡ knownRules (known b)
+unfolding table knownIn known floatTable knownFloatIn knownFloat numbersFrom floatNumbersFrom tableOf rulesFrom
+rules b h = same (λ k. rulesIn (getD tableOf k 0)) (λ k. knownRules (known k)) 0x80 0 refl b (omega arith) h
 
-past : (b : ℕ) → 123 ≤ b → b < 256 → [] ≡ knownRules (known b)
+past : (b : ℕ) → 0x80 ≤ b → b < 256 → [] ≡ knownRules (known b)
 unfolding table knownIn known
-past b l h = same (λ k. []) (λ k. knownRules (known k)) 133 123 refl b l h
+past b l h = same (λ k. []) (λ k. knownRules (known k)) 0x80 0x80 refl b l h
 
 cast-result : tie.Need-cast-result
 cast-result c =

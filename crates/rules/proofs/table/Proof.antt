@@ -2,12 +2,13 @@
 -- number.
 use mathlib.Core.Path.{refl}
 use Rattle.machine.specs.Code.{table, knownIn, known}
-use Rattle.rules.specs.Rules.{numbersFrom, tableOf}
+use Rattle.machine.specs.FloatCode.{floatTable, knownFloatIn, knownFloat}
+use Rattle.rules.specs.Rules.{numbersFrom, floatNumbersFrom, tableOf}
 use Rattle.rules.proofs.table.Statement.{statement}
 use Rattle.rules.proofs.table.Tie as tie
 
 returns : tie.Need-returns
-unfolding table knownIn known numbersFrom tableOf
+unfolding table knownIn known floatTable knownFloatIn knownFloat numbersFrom floatNumbersFrom tableOf
 returns c = refl
 
 pub table-spec : {M : Type 1} → statement M
