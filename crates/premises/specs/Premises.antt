@@ -86,8 +86,7 @@ pub record MetByAlarm21 : Type 0 where
 abbrev pub longAt : Desk → Memory → VirtualAddress → OrAlarm ℕ
 longAt d m x = readBytes (viewOf d m) Read (kindLength D) x
 
--- document 02, F-6: "Demand 2 and the carriers' separation include these commands" (separation is
--- demand 3). ADD D of two numbers in memory, the sum written across two pages; MOVE D of it to R2
+-- document 02, F-6: demand 3 includes its commands. ADD D of two numbers in memory, the sum written across two pages; MOVE D of it to R2
 -- and R3; a request that the status level holds back; DIV D of it by zero to R4 and R5; and a
 -- command that is alarm 14, for a D in form 1 as its second operand
 pub record MetByFloats : Type 0 where

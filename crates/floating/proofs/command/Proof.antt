@@ -9,7 +9,8 @@ use Rattle.floating.proofs.command.Tie as tie
 put-requires : tie.Need-put-requires
 put-requires c κs =
     let taken = c .before .before .before .before .before .before .before .before .before in
-    (taken .before .before .before .before .before .before .pre .0, rw (c .before .before .before .before .before .before .before .o2 .given .1) at (taken .take-all .ensures .1))
+    let told = c .before .before .before .before .before .before .before .o2 .given .1 in
+    (taken .before .before .before .before .before .before .pre .0, rw told at (taken .take-all .ensures .1))
 
 returns : tie.Need-returns
 returns c =
@@ -35,7 +36,12 @@ returns-2 c =
       kind,
       taken .before .before .before .before .float-rules-of .ensures .1 .0,
     ) at (taken .take-all .ensures .0)) in
-    c .before .before .put .ensures ∙ rw (← kind, ← c .before .before .before .before .before .before .before .before .action-of .ensures, c .before .before .before .before .before .before .what .given .1) at e
+    c .before .before .put .ensures
+    ∙ rw (
+      ← kind,
+      ← c .before .before .before .before .before .before .before .before .action-of .ensures,
+      c .before .before .before .before .before .before .what .given .1,
+    ) at e
 
 returns-3 : tie.Need-returns-3
 returns-3 c =
