@@ -26,12 +26,15 @@ pub enum Action {
     Alarm(u32, Alarm),
 }
 
-fn size_at(k: u32) -> Size
+// The size of the k-th byte of a row. An arm for each number below 4, of which the compiler makes a
+// table.
+pub fn size_at(k: u32) -> Size
     ensures { λ r. ⌜ r ≡ sizeAt k ⌝ }
 {
     match k {
         0 => Size::B,
         1 => Size::H,
+        2 => Size::W,
         _ => Size::W,
     }
 }

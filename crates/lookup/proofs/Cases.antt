@@ -1,35 +1,48 @@
--- The lookup in user mode, case by case, by the tests that the code makes. One test stands for both
--- parts of alarm 10, and of a fetch for 21 too; behind it a second tells them apart.
+-- The lookup in user mode, case by case. One comparison tells whether an entry allows the access: the
+-- number that stands for it is its frame's, or past every frame. Behind it the alarm is told.
 use Prim.Native.Nat.{ℕ, _+_, _*_, _/_, _%_, _<_, _≤_}
-use mathlib.Core.Path.{_≡_, refl, sym, ap, _∙_}
+use mathlib.Core.Path.{_≡_, refl, sym, _∙_}
 use mathlib.Core.Bool.{Bool, true, false, not, _&&_, _||_}
 use native.Mathlib.Omega.{arith}
-use borrow.Author.Tests.{leb-true, leb-false, eqb-true, eqb-false, not-true, not-false, lt-ltb, le-ltb}
+use borrow.Author.Tests.{leb-true, leb-false, ltb-true, ltb-false, eqb-true, not-false, lt-ltb, le-ltb}
 use borrow.Author.Tests.{le-leb, lt-leb}
-use lib.Dec.{leb, eqb}
+use lib.Dec.{ltb, leb, eqb}
 use lib.ListN.{length}
 use Rattle.machine.specs.declared.RealAddress.{RealAddress}
 use Rattle.machine.specs.declared.VirtualAddress.{VirtualAddress}
+use Rattle.machine.specs.declared.Alarm.{Alarm}
 use Rattle.machine.specs.declared.Alarm.the-variants as alarms
 use Rattle.machine.specs.declared.Map.{Map}
 use Rattle.machine.specs.declared.Access.{Access}
 use Rattle.machine.specs.declared.Access.the-variants.{Fetch, Read, Write}
-use Rattle.machine.specs.Words.{Memory, wordAt}
+use Rattle.machine.specs.Words.{pick, Memory, wordAt, lowered}
 use Rattle.machine.specs.Alarms.{got, alarm}
 use Rattle.machine.specs.Map.{pageOf, mapEntry, present, writable, fetchable, forbiddenBits, frameOf, undamaged}
-use Rattle.machine.specs.Map.{foundAt, inFrame, allowsWrite, allowsFetch, inNumberOrder, mapped}
-use Rattle.lookup.specs.Answers.{closedBits}
+use Rattle.machine.specs.Map.{Found, foundAt, inFrame, allowsWrite, allowsFetch, inNumberOrder, mapped}
+use Rattle.lookup.specs.Answers.{frameFor, closedTo, refusedFor}
 
--- ---- The bits that must be 0
+-- ---- Tests
 
 -- neither of two tests holds
 neither : (a b : Bool) → a || b ≡ false → (a ≡ false) × (b ≡ false)
 neither true b h = (cc, cc)
 neither false b h = (refl, h)
 
-either : (a b : Bool) → a || b ≡ true → b ≡ false → a ≡ true
-either true b h k = refl
-either false b h k = sym k ∙ h
+-- the lesser of two numbers is one of them
+lesser-is : (a b : ℕ) (P : ℕ → Type 0) → P a → P b → P (pick (ltb a b) a b)
+lesser-is a b P p q = go (ltb a b)
+  where
+    go : (t : Bool) → P (pick t a b)
+    go true = p
+    go false = q
+
+-- and is below none
+lesser-below : (a b n : ℕ) → n ≤ pick (ltb a b) a b → (n ≤ a) × (n ≤ b)
+lesser-below a b n = go (ltb a b) refl
+  where
+    go : (t : Bool) → ltb a b ≡ t → n ≤ pick t a b → (n ≤ a) × (n ≤ b)
+    go true h l = (l, omega (arith, l, ltb-true a b h))
+    go false h l = (omega (arith, l, ltb-false a b h), l)
 
 past-frames : (n f : ℕ) → leb (512 * f + 512) n ≡ not (leb (n / 512) f)
 past-frames n f = go (leb (n / 512) f) refl
@@ -38,29 +51,72 @@ past-frames n f = go (leb (n / 512) f) refl
     go true h = lt-leb (512 * f + 512) n (omega (arith, leb-true (n / 512) f h))
     go false h = le-leb (512 * f + 512) n (omega (arith, leb-false (n / 512) f h))
 
--- a frame of a memory has a small number
-pub small-frame : (a : Bool) (n f : ℕ) → a || leb (n / 512) f ≡ false → n ≤ 16777216 → f < 32768
-small-frame a n f h l = omega (arith, leb-false (n / 512) f (neither a (leb (n / 512) f) h .1))
+-- ---- An entry by the number that stands for it
 
-forbidden-part : (w : Access) (e : ℕ) → closedBits w e % 0x20 ≡ forbiddenBits e
-forbidden-part Fetch e = omega arith
-forbidden-part Read e = omega arith
-forbidden-part Write e = omega arith
+-- entry e allows an access, and k is its frame
+record Allows (w : Access) (e k : ℕ) : Type 0 where
+  there : 0x8000_0000 ≤ e
+  sound : forbiddenBits e ≡ 0
+  frame : k ≡ e % 0x100_0000
+  write : allowsWrite w e ≡ true
+  fetch : allowsFetch w e ≡ true
 
--- one is set, but none of the five: it is the one that a fetch asks for
-closed : (w : Access) (e : ℕ) → (closedBits w e ≡ 0 → ⊥) → closedBits w e % 0x20 ≡ 0
-    → (allowsWrite w e ≡ true) × (allowsFetch w e ≡ false)
-unfolding allowsWrite allowsFetch fetchable
-closed Fetch e h k = (refl, le-ltb (e % 0x4000_0000) 0x2000_0000 (omega (arith, h, k)))
-closed Read e h k = absurd (h (omega arith))
-closed Write e h k = absurd (h (omega arith))
+module _ (e n : ℕ) (word : e < 0x1_0000_0000) (few : n ≤ 32768) where
+  -- the number is below n
+  allows : (w : Access) → frameFor w e < n → Allows w e (frameFor w e)
+  unfolding allowsWrite allowsFetch writable fetchable
+  allows Fetch =
+      lesser-is (lowered e 0x8000_0000) (lowered e 0xC000_0000) (λ k. k < n → Allows Fetch e k)
+      (λ l. record {
+        there = omega arith;
+        sound = omega arith;
+        frame = omega arith;
+        write = refl;
+        fetch = lt-ltb (e % 0x4000_0000) 0x2000_0000 (omega arith);
+      })
+      (λ l. record {
+        there = omega arith;
+        sound = omega arith;
+        frame = omega arith;
+        write = refl;
+        fetch = lt-ltb (e % 0x4000_0000) 0x2000_0000 (omega arith);
+      })
+  allows Read = λ l. record {
+    there = omega arith;
+    sound = omega arith;
+    frame = omega arith;
+    write = refl;
+    fetch = refl;
+  }
+  allows Write =
+      lesser-is (lowered e 0xC000_0000) (lowered e 0xE000_0000) (λ k. k < n → Allows Write e k)
+      (λ l. record {
+        there = omega arith;
+        sound = omega arith;
+        frame = omega arith;
+        write = le-leb 0x4000_0000 (e % 0x8000_0000) (omega arith);
+        fetch = refl;
+      })
+      (λ l. record {
+        there = omega arith;
+        sound = omega arith;
+        frame = omega arith;
+        write = le-leb 0x4000_0000 (e % 0x8000_0000) (omega arith);
+        fetch = refl;
+      })
 
--- none is set
-opened : (w : Access) (e : ℕ) → closedBits w e ≡ 0 → allowsFetch w e ≡ true
-unfolding allowsFetch fetchable
-opened Fetch e h = lt-ltb (e % 0x4000_0000) 0x2000_0000 (omega arith)
-opened Read e h = refl
-opened Write e h = refl
+  -- it is not, and the entry is sound: so the access asks for a right that is not given
+  closes : (w : Access) (x : VirtualAddress) (f : Found) → 0x8000_0000 ≤ e → forbiddenBits e ≡ 0 → e % 0x100_0000 < n
+      → n ≤ frameFor w e
+      → inNumberOrder true true true (allowsWrite w e) (allowsFetch w e) x f ≡ alarm (closedTo w) (x .0)
+  unfolding allowsWrite allowsFetch writable fetchable inNumberOrder
+  closes Fetch x f there sound inside past =
+      let l = lesser-below (lowered e 0x8000_0000) (lowered e 0xC000_0000) n past in
+      rw (le-ltb (e % 0x4000_0000) 0x2000_0000 (omega (arith, l .0, l .1)))
+  closes Read x f there sound inside past = absurd (omega arith)
+  closes Write x f there sound inside past =
+      let l = lesser-below (lowered e 0xC000_0000) (lowered e 0xE000_0000) n past in
+      rw (lt-leb 0x4000_0000 (e % 0x8000_0000) (omega (arith, l .0, l .1)))
 
 -- ---- The cases
 
@@ -80,68 +136,56 @@ module _ (map : Map) (m : Memory) (x : VirtualAddress) (w : Access) where
     unfolding mapped
     by-entry = rw (entry, lt-ltb (pageOf x) (map .length) below)
 
-    pub mapped-9 : e < 0x8000_0000 → alarm alarms.Absent (x .0) ≡ mapped map m x w
-    unfolding present inNumberOrder
-    mapped-9 h = rw (by-entry, lt-leb 0x8000_0000 e h)
+    whole : undamaged (length m) e ≡ not (not (eqb (forbiddenBits e) 0) || leb (length m / 512) (e % 0x100_0000))
+    unfolding undamaged frameOf
+    whole =
+        rw (past-frames (length m) (e % 0x100_0000))
+        (go (eqb (forbiddenBits e) 0) (leb (length m / 512) (e % 0x100_0000)))
+      where
+        go : (a b : Bool) → a && not b ≡ not (not a || b)
+        go true b = refl
+        go false b = refl
 
-    module _ (there : 0x8000_0000 ≤ e) (c : ℕ) (bits : c ≡ closedBits w e) where
-      whole : undamaged (length m) e ≡ not (not (eqb (c % 0x20) 0) || leb (length m / 512) (e % 0x100_0000))
-      unfolding undamaged frameOf
-      whole =
-          let p = sym (forbidden-part w e) ∙ ap (λ (k : ℕ). k % 0x20) (sym bits) in
-          rw (p, past-frames (length m) (e % 0x100_0000))
-          (go (eqb (c % 0x20) 0) (leb (length m / 512) (e % 0x100_0000)))
+    module _ (fit : e < 0x1_0000_0000) (few : length m ≤ 16777216) (k : ℕ) (number : k ≡ frameFor w e) where
+      -- found, in the frame of that number
+      pub mapped-found : (a : RealAddress) → k < length m / 512 → a ≡ inFrame (record { 0 = k }) x
+          → got (foundAt m a) ≡ mapped map m x w
+      unfolding present inNumberOrder frameOf
+      mapped-found a l q =
+          let t = allows e (length m / 512) fit (omega arith) w (rw number at l) in
+          let inside : e % 0x100_0000 < length m / 512 = rw (number ∙ t .frame) at l in
+          rw (
+            by-entry,
+            le-leb 0x8000_0000 e (t .there),
+            whole,
+            t .sound,
+            lt-leb (length m / 512) (e % 0x100_0000) inside,
+            t .write,
+            t .fetch,
+            q,
+            number ∙ t .frame,
+          )
+
+      -- 9, 10, 11 or 21
+      pub mapped-refused : (n : Alarm) → length m / 512 ≤ k → n ≡ refusedFor w e (length m / 512)
+          → alarm n (x .0) ≡ mapped map m x w
+      unfolding present inNumberOrder
+      mapped-refused n l q = rw q (first (ltb e 0x8000_0000) refl)
         where
-          go : (a b : Bool) → a && not b ≡ not (not a || b)
-          go true b = refl
-          go false b = refl
+          damaged : Bool
+          damaged = not (eqb (forbiddenBits e) 0) || leb (length m / 512) (e % 0x100_0000)
 
-      pub mapped-10 : not (eqb (c % 0x20) 0) || leb (length m / 512) (e % 0x100_0000) ≡ true
-          → alarm alarms.MapEntry (x .0) ≡ mapped map m x w
-      unfolding present inNumberOrder
-      mapped-10 h = rw (by-entry, le-leb 0x8000_0000 e there, whole, h)
+          second : 0x8000_0000 ≤ e → (t : Bool) → damaged ≡ t
+              → alarm (pick t alarms.MapEntry (closedTo w)) (x .0) ≡ mapped map m x w
+          second there true h = rw (by-entry, le-leb 0x8000_0000 e there, whole, h)
+          second there false h =
+              let n = neither (not (eqb (forbiddenBits e) 0)) (leb (length m / 512) (e % 0x100_0000)) h in
+              let sound = eqb-true (forbiddenBits e) 0 (not-false (eqb (forbiddenBits e) 0) (n .0)) in
+              let inside = leb-false (length m / 512) (e % 0x100_0000) (n .1) in
+              rw (by-entry, le-leb 0x8000_0000 e there, whole, h)
+              (sym (closes e (length m / 512) fit (omega arith) w x _ there sound inside (rw number at l)))
 
-      pub mapped-21 : not (eqb c 0) || leb (length m / 512) (e % 0x100_0000) ≡ true
-          → not (eqb (c % 0x20) 0) || leb (length m / 512) (e % 0x100_0000) ≡ false
-          → alarm alarms.NoFetch (x .0) ≡ mapped map m x w
-      unfolding present inNumberOrder
-      mapped-21 h k =
-          let n = neither (not (eqb (c % 0x20) 0)) (leb (length m / 512) (e % 0x100_0000)) k in
-          let five = eqb-true (c % 0x20) 0 (not-false (eqb (c % 0x20) 0) (n .0)) in
-          let one = either (not (eqb c 0)) (leb (length m / 512) (e % 0x100_0000)) h (n .1) in
-          let some = eqb-false c 0 (not-true (eqb c 0) one) in
-          let t = closed w e (rw bits at some) (rw bits at five) in
-          rw (by-entry, le-leb 0x8000_0000 e there, whole, k, t .0, t .1)
-
-      module _ (none : not (eqb c 0) || leb (length m / 512) (e % 0x100_0000) ≡ false) where
-        sound : (c ≡ 0) × (undamaged (length m) e ≡ true)
-        sound =
-            let n = neither (not (eqb c 0)) (leb (length m / 512) (e % 0x100_0000)) none in
-            let z = eqb-true c 0 (not-false (eqb c 0) (n .0)) in
-            (z, rw (whole, z, n .1))
-
-        pub mapped-11 : w ≡ Write → e % 0x8000_0000 < 0x4000_0000 → alarm alarms.ReadOnly (x .0) ≡ mapped map m x w
-        unfolding present inNumberOrder allowsWrite writable
-        mapped-11 q h =
-            rw (by-entry, le-leb 0x8000_0000 e there, sound .1, q, lt-leb 0x4000_0000 (e % 0x8000_0000) h)
-
-        mapped-at : (a : RealAddress) → a ≡ inFrame (record { 0 = e % 0x100_0000 }) x → allowsWrite w e ≡ true
-            → got (foundAt m a) ≡ mapped map m x w
-        unfolding present inNumberOrder frameOf
-        mapped-at a q h =
-            rw (by-entry, le-leb 0x8000_0000 e there, sound .1, h, opened w e (sym bits ∙ sound .0), q)
-
-        pub mapped-fetch : (a : RealAddress) → a ≡ inFrame (record { 0 = e % 0x100_0000 }) x → w ≡ Fetch
-            → got (foundAt m a) ≡ mapped map m x w
-        unfolding allowsWrite
-        mapped-fetch a q h = mapped-at a q (rw h)
-
-        pub mapped-read : (a : RealAddress) → a ≡ inFrame (record { 0 = e % 0x100_0000 }) x → w ≡ Read
-            → got (foundAt m a) ≡ mapped map m x w
-        unfolding allowsWrite
-        mapped-read a q h = mapped-at a q (rw h)
-
-        pub mapped-write : (a : RealAddress) → a ≡ inFrame (record { 0 = e % 0x100_0000 }) x → w ≡ Write
-            → 0x4000_0000 ≤ e % 0x8000_0000 → got (foundAt m a) ≡ mapped map m x w
-        unfolding allowsWrite writable
-        mapped-write a q h t = mapped-at a q (rw (h, le-leb 0x4000_0000 (e % 0x8000_0000) t))
+          first : (t : Bool) → ltb e 0x8000_0000 ≡ t
+              → alarm (pick t alarms.Absent (pick damaged alarms.MapEntry (closedTo w))) (x .0) ≡ mapped map m x w
+          first true h = rw (by-entry, lt-leb 0x8000_0000 e (ltb-true e 0x8000_0000 h))
+          first false h = second (ltb-false e 0x8000_0000 h) damaged refl

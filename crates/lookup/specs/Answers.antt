@@ -1,13 +1,17 @@
--- What a lookup says, and the bits that it asks for, in the terms of `machine`.
+-- What a lookup says, and what it asks of an entry, in the terms of `machine`.
 use Prim.Native.Nat.{ℕ, _+_, _*_, _/_, _%_, _<_, _≤_}
 use mathlib.Core.Path.{_≡_}
+use mathlib.Core.Bool.{not, _||_}
+use lib.Dec.{ltb, leb, eqb}
 use lib.ListN.{length}
 use Rattle.machine.specs.declared.RealAddress.{RealAddress}
 use Rattle.machine.specs.declared.VirtualAddress.{VirtualAddress}
 use Rattle.machine.specs.declared.Access.{Access}
 use Rattle.machine.specs.declared.Access.the-variants.{Fetch, Read, Write}
+use Rattle.machine.specs.declared.Alarm.{Alarm}
+use Rattle.machine.specs.declared.Alarm.the-variants as alarms
 use Rattle.machine.specs.declared.Map.{Map}
-use Rattle.machine.specs.Words.{Memory}
+use Rattle.machine.specs.Words.{pick, Memory, lowered}
 use Rattle.machine.specs.Alarms.{OrAlarm, got, alarm}
 use Rattle.machine.specs.Map.{forbiddenBits, Found, foundAt, View, viewBy}
 use Rattle.machine.specs.OnePage.{InOnePage}
@@ -24,11 +28,26 @@ pub record Fits (map : Map) (m : Memory) : Type 0 where
   pub small : length m ≤ 16777216
   pub whole : length m % 512 ≡ 0
 
--- the bits of an entry that must be 0 for an access: five, and for a fetch the one that forbids it
-abbrev pub closedBits : Access → ℕ → ℕ
-closedBits Fetch e = e / 0x100_0000 % 0x40
-closedBits Read e = forbiddenBits e
-closedBits Write e = forbiddenBits e
+-- the frame number of an entry that allows an access, and of any other a number past every frame: the
+-- bits that must be set are taken off, and those that do not matter to the access
+abbrev pub frameFor : Access → ℕ → ℕ
+frameFor Fetch e = let a = lowered e 0x8000_0000 in let b = lowered e 0xC000_0000 in pick (ltb a b) a b
+frameFor Read e =
+    let low = lowered e 0x8000_0000 in
+    low % 0x2000_0000 + low / 0x8000_0000 * 0x8000_0000
+frameFor Write e = let a = lowered e 0xC000_0000 in let b = lowered e 0xE000_0000 in pick (ltb a b) a b
+
+-- the alarm of an entry that is sound but does not allow an access; each that is allows reading
+abbrev pub closedTo : Access → Alarm
+closedTo Fetch = alarms.NoFetch
+closedTo Read = alarms.MapEntry
+closedTo Write = alarms.ReadOnly
+
+-- the alarm of an entry that does not allow an access, in a memory with so many frames
+abbrev pub refusedFor : Access → ℕ → ℕ → Alarm
+refusedFor w e frames =
+    pick (ltb e 0x8000_0000) alarms.Absent
+    (pick (not (eqb (forbiddenBits e) 0) || leb frames (e % 0x100_0000)) alarms.MapEntry (closedTo w))
 
 -- a lookup in memory m
 abbrev pub lookupAs : Memory → Lookup → OrAlarm Found

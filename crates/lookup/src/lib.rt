@@ -4,9 +4,11 @@
 ghost use mathlib.Core.Path.{_≡_};
 ghost use mathlib.Core.Bool.{false};
 ghost use Prim.Native.Nat.{_<_, _≤_};
-ghost use Rattle.lookup.specs.Answers.{Fits, FoundBeside, WholeOf, closedBits, lookupAs};
+ghost use lib.Dec.{ltb};
+ghost use Rattle.lookup.specs.Answers.{Fits, FoundBeside, WholeOf, frameFor, lookupAs, refusedFor};
 ghost use Rattle.machine.specs.Map.{inFrame, mapped, realOf, viewBy};
 ghost use Rattle.machine.specs.State.{userMode};
+ghost use Rattle.machine.specs.Words.{pick};
 use machine::Access;
 use machine::Alarm;
 use machine::FrameNumber;
@@ -41,15 +43,43 @@ fn in_frame(f: FrameNumber, x: VirtualAddress) -> RealAddress
     RealAddress(512 * f.0 + x.0 % 512)
 }
 
-// The bits of an entry that must be 0 for this access: five, and for a fetch the one that forbids
-// it.
-fn closed_bits(why: Access, e: u32) -> u32
-    ensures { λ r. ⌜ r ≡ closedBits why e ⌝ }
+fn lesser(a: u32, b: u32) -> u32
+    ensures { λ r. ⌜ r ≡ pick (ltb a b) a b ⌝ }
+{
+    if a < b { a } else { b }
+}
+
+// The frame of an entry that allows this access; else a number past every frame. Taken off are the bits
+// that must be set, and those that do not matter: the bit for writing to a fetch, that against
+// fetching to a write, both to a read.
+fn frame_for(why: Access, e: u32) -> u32
+    ensures { λ r. ⌜ r ≡ frameFor why e ⌝ }
 {
     match why {
-        Access::Fetch => e / 0x100_0000 % 0x40,
-        Access::Read => e / 0x100_0000 % 0x20,
-        Access::Write => e / 0x100_0000 % 0x20,
+        Access::Fetch => lesser(words::minus(e, 0x8000_0000), words::minus(e, 0xC000_0000)),
+        Access::Read => {
+            let low = words::minus(e, 0x8000_0000);
+            low % 0x2000_0000 + low / 0x8000_0000 * 0x8000_0000
+        }
+        Access::Write => lesser(words::minus(e, 0xC000_0000), words::minus(e, 0xE000_0000)),
+    }
+}
+
+// The alarm of an entry that does not allow this access, of a memory with so many frames.
+fn refused(why: Access, e: u32, frames: usize) -> Alarm
+    ensures { λ r. ⌜ r ≡ refusedFor why e frames ⌝ }
+{
+    if e < 0x8000_0000 {
+        return Alarm::Absent;
+    }
+    let f = (e % 0x100_0000) as usize;
+    if (e / 0x100_0000 % 0x20 != 0) | (frames <= f) {
+        return Alarm::MapEntry;
+    }
+    match why {
+        Access::Fetch => Alarm::NoFetch,
+        Access::Read => Alarm::MapEntry,
+        Access::Write => Alarm::ReadOnly,
     }
 }
 
@@ -64,29 +94,12 @@ fn look_mapped(mem: &[u8], map: Map, x: VirtualAddress, why: Access) -> Lookup
     }
     let base = map.base;
     let e = words::word(mem, (base.0 + 4 * p) as usize);
-    if e < 0x8000_0000 {
-        return Lookup::Alarm(x, Alarm::Absent);
+    let f = frame_for(why, e);
+    let frames = mem.len() / 512;
+    if frames <= f as usize {
+        return Lookup::Alarm(x, refused(why, e, frames));
     }
-    // One test finds 10 and, for a fetch, 21; only behind it are they told apart.
-    let f = e % 0x100_0000;
-    let bits = closed_bits(why, e);
-    let past = mem.len() / 512 <= f as usize;
-    if (bits != 0) | past {
-        if (bits % 0x20 != 0) | past {
-            return Lookup::Alarm(x, Alarm::MapEntry);
-        }
-        return Lookup::Alarm(x, Alarm::NoFetch);
-    }
-    match why {
-        Access::Fetch => Lookup::At(in_frame(FrameNumber(f), x)),
-        Access::Read => Lookup::At(in_frame(FrameNumber(f), x)),
-        Access::Write => {
-            if e % 0x8000_0000 < 0x4000_0000 {
-                return Lookup::Alarm(x, Alarm::ReadOnly);
-            }
-            Lookup::At(in_frame(FrameNumber(f), x))
-        }
-    }
+    Lookup::At(in_frame(FrameNumber(f), x))
 }
 
 // In kernel mode alone.

@@ -174,14 +174,14 @@ fn take_memory(
     ensures small { λ r. ⌜ SmallTaken r ⌝ }
 {
     let goes = written(role, a);
-    match role {
-        Role::Value => {}
-        Role::Address => return Taken::Got(a.0, goes),
-        Role::Destination => return Taken::Got(0, goes),
-        Role::Update => {}
+    if rules::reads(role) {
+        let v = read(mem, status, map, a, size);
+        return with_value(v, goes);
     }
-    let v = read(mem, status, map, a, size);
-    with_value(v, goes)
+    if rules::addresses(role) {
+        return Taken::Got(a.0, goes);
+    }
+    Taken::Got(0, goes)
 }
 
 // What an operand's role takes from it.

@@ -1,6 +1,6 @@
 -- A command whose operands are taken and whose end is known is carried out; one that is left has
 -- changed R15 alone, which is put back. The bytes from 10h on are commands of both modes.
-use Prim.Native.Nat.{ℕ, _≤_, _<_}
+use Prim.Native.Nat.{ℕ, _%_, _≤_, _<_}
 use mathlib.Core.Path.{_≡_, refl, ap, subst, _∙_}
 use mathlib.Core.Bool.{Bool, true, false, _||_}
 use mathlib.Core.List.{List}
@@ -11,15 +11,19 @@ use lib.Dec.{leb, eqb}
 use lib.ListN.{set}
 use lib.Seq.{set-set, set-getD}
 use Rattle.machine.specs.declared.Map.{Map}
-use Rattle.machine.specs.Words.{pick, Memory}
-use Rattle.machine.specs.State.{Registers, reg, userMode, flagsOf}
+use Rattle.machine.specs.declared.Result.{Result}
+use Rattle.machine.specs.declared.Size.{Size}
+use Rattle.machine.specs.Words.{pick, Memory, lengthOf, sizeAt}
+use Rattle.machine.specs.State.{Registers, reg, userMode, flagsOf, withFlags}
 use Rattle.machine.specs.Alarms.{got}
 use Rattle.machine.specs.declared.Access.the-variants.{Fetch}
 use Rattle.machine.specs.Map.{viewBy, readBytes}
 use Rattle.machine.specs.Code.{Rule, table, knownIn, known}
 use Rattle.machine.specs.Operands.{past, Operands, operandsOf}
 use Rattle.rules.specs.Rules.{knownRules, forbiddenOf}
+use Rattle.actions.specs.declared.Action.the-variants as action
 use Rattle.actions.specs.Actions.{actionOf}
+use Rattle.effects.specs.Effects.{Acts}
 use Rattle.machine.proofs.CommandBytes.{same}
 use Rattle.results.specs.Ends.{End, commandDone, systemCalled, halted, resumed, alarmed}
 use Rattle.commands.specs.Execution.{execOf, actionEnd}
@@ -27,7 +31,7 @@ use Rattle.commands.proofs.Laws.{exec-action}
 use Rattle.sure.specs.Answers.{OnlyR15}
 use Rattle.quick.specs.declared.Quick.{Quick}
 use Rattle.quick.specs.declared.Quick.the-variants as quick
-use Rattle.quick.specs.Quietly.{Finishes, Carried, CarriesOut}
+use Rattle.quick.specs.Quietly.{Ends, Finishes, Carried, CarriesOut}
 
 pub carried : (s : ℕ) (map : Map) (b : ℕ) (ks : List Rule) (r : Registers) (m : Memory) (o : Operands)
     → got o ≡ operandsOf (viewBy s map m) ks r → OnlyR15 r (o .registers) → (q : Registers) (n : Memory) (u : Quick)
@@ -36,6 +40,22 @@ pub carried : (s : ℕ) (map : Map) (b : ℕ) (ks : List Rule) (r : Registers) (
 carried s map b ks r m o h only q n (quick.Done t) f = record { operands = o; taken = h; same = f }
 carried s map b ks r m o h only q n quick.Unsure f =
     (record { r15 = only .r15; same = f .0 ∙ only .same }, f .1)
+
+-- a command on bytes or halfwords that gives a result of its byte's size, or new flags alone
+module _ (s : ℕ) (map : Map) (b : ℕ) (ks : List Rule) (r : Registers) (m : Memory) (o : Operands)
+    (taken : got o ≡ operandsOf (viewBy s map m) ks r) (only : OnlyR15 r (o .registers)) where
+  pub gives-carried : (size : Size) (x : Result) → size ≡ sizeAt (b % 4)
+      → Acts b (o .first) (o .second) (action.Give (sizeAt (b % 4)) x) → (q : Registers) (t : ℕ) (n : Memory)
+      → Ends (lengthOf size) s map m (o .registers) x (o .target) q t n → CarriesOut s map b ks r m q n (quick.Done t)
+  unfolding actionEnd
+  gives-carried size x own does q t n e =
+      carried s map b ks r m o taken only q n (quick.Done t) (rw (← does .same (flagsOf s), ← own) e)
+
+  pub flags-carried : (g : ℕ) → Acts b (o .first) (o .second) (action.Flags g)
+      → CarriesOut s map b ks r m (o .registers) m (quick.Done (withFlags s g))
+  unfolding actionEnd
+  flags-carried g does =
+      carried s map b ks r m o taken only (o .registers) m (quick.Done (withFlags s g)) (rw (← does .same (flagsOf s)))
 
 pub put-back : (r q : Registers) (p : ℕ) → OnlyR15 (set r 15 p) q → set q 15 (reg r 15) ≡ r
 put-back r q p only =

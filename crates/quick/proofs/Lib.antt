@@ -1,2 +1,2 @@
-pub mod WordWritten
 pub mod Carrying
+pub mod Written

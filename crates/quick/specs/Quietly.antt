@@ -18,8 +18,6 @@ use Rattle.commands.specs.Execution.{execOf, actionEnd}
 use Rattle.sure.specs.Answers.{OnlyR15}
 use Rattle.quick.specs.declared.Quick.{Quick}
 use Rattle.quick.specs.declared.Quick.the-variants as quick
-use Rattle.quick.specs.declared.Effect.{Effect}
-use Rattle.quick.specs.declared.Effect.the-variants as effect
 
 -- the command at R15, from registers r and memory m on to registers q and memory n: it ends quietly
 -- with the status t; or nothing has changed
@@ -27,14 +25,9 @@ abbrev pub Quietly : ℕ → Map → Registers → Memory → Registers → Memo
 Quietly s map r m q n (quick.Done t) = commandDone q t n ≡ execOf s map r m
 Quietly s map r m q n quick.Unsure = (q ≡ r) × (n ≡ m)
 
--- an effect is what the command byte does
-abbrev pub EffectOf : ℕ → ℕ → ℕ → ℕ → Effect → Type 0
-EffectOf b f x y (effect.Does a) = a ≡ actionOf b f x y
-EffectOf b f x y effect.Unsure = Unit {0}
-
--- a word that goes to a target ends the command with these registers, status and memory
-abbrev pub Ends : ℕ → Map → Memory → Registers → Result → Target → Registers → ℕ → Memory → Type 0
-Ends s map m r x t q u n = commandDone q u n ≡ endIn s map m (λ v. got (stored 4 x t r))
+-- a result of L bytes that goes to a target ends the command with these registers, status and memory
+abbrev pub Ends : ℕ → ℕ → Map → Memory → Registers → Result → Target → Registers → ℕ → Memory → Type 0
+Ends L s map m r x t q u n = commandDone q u n ≡ endIn s map m (λ v. got (stored L x t r))
 
 -- a command with this end, its operands taken: it ended so; or nothing has changed
 abbrev pub Finishes : End → Registers → Memory → Registers → Memory → Quick → Type 0

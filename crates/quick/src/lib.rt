@@ -1,6 +1,6 @@
-// The quick way: the command at R15, if it surely ends quietly. Its operands are surely words, every
-// place that it uses is found before anything changes, and then nothing can fail. Where it is not
-// sure, nothing has changed.
+// The quick way: the command at R15, if it surely ends quietly. Its operands surely give no alarm,
+// every place that it uses is found before anything changes, and then nothing can fail. Where it is
+// not sure, nothing has changed.
 ghost use mathlib.Core.Path.{_≡_};
 ghost use Rattle.commands.specs.Execution.{actionEnd};
 ghost use Rattle.fetches.specs.Answers.{FetchedFrom};
@@ -9,12 +9,16 @@ ghost use Rattle.machine.specs.Alarms.{got};
 ghost use Rattle.machine.specs.Commands.{called, returnedDone};
 ghost use Rattle.machine.specs.Map.{viewBy};
 ghost use Rattle.machine.specs.State.{flagsOf};
-ghost use Rattle.quick.specs.Quietly.{CarriesOut, EffectOf, Ends, Finishes, Quietly};
+ghost use Rattle.machine.specs.Code.{known};
+ghost use Rattle.machine.specs.Words.{lengthOf, sizeAt};
+ghost use Rattle.quick.specs.Quietly.{CarriesOut, Ends, Finishes, Quietly};
 ghost use Rattle.results.specs.Ends.{endIn};
-ghost use Rattle.rules.specs.Rules.{rulesIn, tableOf};
-ghost use Prim.Native.Nat.{_<_};
+ghost use Rattle.rules.specs.Rules.{AllOf, Unaddressed, knownRules, rulesIn, sizeIn, sizeOf, tableOf};
+ghost use Prim.Native.Nat.{_%_, _<_};
 ghost use Rattle.sure.specs.Answers.{Reaches, targetOf};
 use actions::Action;
+use effects::Effect;
+use effects::Narrow;
 use fetches::CommandByte;
 use lookup::Whole;
 use machine::Access;
@@ -32,65 +36,20 @@ pub enum Quick {
     Unsure,
 }
 
-// What a command on words does with its operands' numbers, where it surely ends quietly.
-pub enum Effect {
-    Does(Action),
-    Unsure,
-}
-
-fn gives(x: Result) -> Effect
-    ensures { λ r. ⌜ r ≡ Effect.Does (Action.Give Size.W x) ⌝ }
-{
-    Effect::Does(Action::Give(Size::W, x))
-}
-
-fn jumps(taken: bool) -> Effect
-    ensures { λ r. ⌜ r ≡ Effect.Does (Action.Jump taken) ⌝ }
-{
-    Effect::Does(Action::Jump(taken))
-}
-
-// The operation of a command byte, as `actions` has it, for words and jumps. Single bytes, so that
-// the compiler makes a table of jumps.
-fn effect_of(b: u32, f: u32, x: u32, y: u32) -> Effect
-    ensures { λ r. ⌜ EffectOf b f x y r ⌝ }
-{
-    match b {
-        0x12 => gives(integers::plain(Size::W, x)),
-        0x16 => gives(integers::plain(Size::W, 0)),
-        0x1A => gives(sums::subtract(Size::W, x, 0)),
-        0x1E => gives(integers::plain(Size::W, integers::complement(Size::W, x))),
-        0x20 => gives(integers::plain(Size::W, x)),
-        0x2A | 0x2E => gives(integers::or(Size::W, x, y)),
-        0x32 | 0x36 => gives(integers::and_not(Size::W, x, y)),
-        0x3A | 0x3E => gives(integers::xor(Size::W, x, y)),
-        0x42 | 0x46 => gives(sums::add(Size::W, x, y)),
-        0x4A | 0x4E => gives(sums::subtract(Size::W, x, y)),
-        0x52 | 0x56 => gives(products::multiply(Size::W, x, y)),
-        0x60 => gives(shifts::shift(x, y)),
-        0x61 => gives(shifts::rotate(x, y)),
-        0x66 => Effect::Does(Action::Flags(sums::compare(Size::W, x, y))),
-        0x70 => jumps(true),
-        0x71 => jumps(actions::flag_z(f)),
-        0x72 => jumps(!actions::flag_z(f)),
-        0x73 => jumps(!(actions::flag_n(f) | actions::flag_z(f))),
-        0x74 => jumps(!actions::flag_n(f)),
-        0x75 => jumps(actions::flag_n(f)),
-        0x76 => jumps(actions::flag_n(f) | actions::flag_z(f)),
-        0x77 => jumps(actions::flag_v(f)),
-        0x78 => jumps(actions::flag_c(f)),
-        0x79 => Effect::Does(Action::Call),
-        0x7A => Effect::Does(Action::Return),
-        _ => Effect::Unsure,
-    }
-}
-
 // ---- The writes
 
 // A result to its target; what is written to memory was looked up.
-fn put(mem: &mut [u8], regs: &mut [u32; 16], status: u32, map: Map, x: Result, goes: Goes) -> u32
-    requires { ⌜ Fits map (now mem) × Reaches status map (now mem) goes ⌝ }
-    ensures { λ r. ⌜ Ends status map (now (mem .entry)) (now (regs .entry)) x (targetOf goes)
+fn put(
+    mem: &mut [u8],
+    regs: &mut [u32; 16],
+    status: u32,
+    map: Map,
+    size: Size,
+    x: Result,
+    goes: Goes,
+) -> u32
+    requires { ⌜ Fits map (now mem) × Reaches (lengthOf size) status map (now mem) goes ⌝ }
+    ensures { λ r. ⌜ Ends (lengthOf size) status map (now (mem .entry)) (now (regs .entry)) x (targetOf goes)
         (now (regs .exit)) r (now (mem .exit)) ⌝ }
 {
     let s = results::with_flags(status, x.flags);
@@ -98,12 +57,12 @@ fn put(mem: &mut [u8], regs: &mut [u32; 16], status: u32, map: Map, x: Result, g
         Goes::Nowhere => s,
         Goes::Register(i) => {
             let k = i as usize;
-            regs[k] = results::kept_rest(Size::W, regs[k], x.value);
+            regs[k] = results::kept_rest(size, regs[k], x.value);
             s
         }
         Goes::Memory(_, r) => {
             let at = r.0 as usize;
-            words::value_to(mem, at, Size::W, x.value);
+            words::value_to(mem, at, size, x.value);
             s
         }
     }
@@ -148,7 +107,7 @@ fn ret(mem: &[u8], regs: &mut [u32; 16], status: u32, map: Map) -> Quick
     }
 }
 
-// What is left once the operation is known; x is the first operand's number.
+// What is left of a command on words once its operation is known; x is the first operand's number.
 fn finish(
     mem: &mut [u8],
     regs: &mut [u32; 16],
@@ -158,14 +117,14 @@ fn finish(
     goes: Goes,
     what: Action,
 ) -> Quick
-    requires { ⌜ Fits map (now mem) × Reaches status map (now mem) goes ⌝ }
+    requires { ⌜ Fits map (now mem) × Reaches 4 status map (now mem) goes ⌝ }
     ensures { λ r. ⌜ Finishes
         (actionEnd status (now (mem .entry)) (viewBy status map (now (mem .entry))) (now (regs .entry)) x (targetOf goes) what)
         (now (regs .entry)) (now (mem .entry)) (now (regs .exit)) (now (mem .exit)) r ⌝ }
 {
     match what {
         Action::Give(size, v) => match size {
-            Size::W => Quick::Done(put(mem, regs, status, map, v, goes)),
+            Size::W => Quick::Done(put(mem, regs, status, map, Size::W, v, goes)),
             _ => Quick::Unsure,
         },
         Action::Flags(f) => Quick::Done(results::with_flags(status, f)),
@@ -181,8 +140,73 @@ fn finish(
     }
 }
 
-// The command whose byte b was fetched from start and lies at found, by its operand rules; R15 is
-// past the byte. Where it is unsure, R15 alone has changed.
+// ---- The command
+
+// The command on words, the jump, CALL or RET whose byte b was fetched from start and lies at found,
+// by its operand rules; R15 is past the byte. Where it is unsure, R15 alone has changed.
+fn carry_out_words(
+    mem: &mut [u8],
+    regs: &mut [u32; 16],
+    status: u32,
+    map: Map,
+    start: VirtualAddress,
+    found: RealAddress,
+    b: u32,
+    rules: u32,
+) -> Quick
+    requires { ⌜ Fits map (now mem) × FetchedFrom (viewBy status map (now mem)) (now mem) start found
+        × (rules < 65536) ⌝ }
+    requires { ⌜ AllOf Size.W (rulesIn rules) ⌝ }
+    ensures { λ r. ⌜ CarriesOut status map b (rulesIn rules) (now (regs .entry)) (now (mem .entry))
+        (now (regs .exit)) (now (mem .exit)) r ⌝ }
+{
+    let o = sure::take_all(mem, regs, status, map, start, found, rules);
+    match o {
+        Operands::Ready(x, y, goes) => {
+            let what = effects::effect_of(b, status % 16, x, y);
+            match what {
+                Effect::Does(action) => finish(mem, regs, status, map, x, goes, action),
+                Effect::Unsure => Quick::Unsure,
+            }
+        }
+        Operands::Unsure => Quick::Unsure,
+    }
+}
+
+// The same for a command on bytes or halfwords, whose size is that of its byte.
+fn carry_out_narrow(
+    mem: &mut [u8],
+    regs: &mut [u32; 16],
+    status: u32,
+    map: Map,
+    start: VirtualAddress,
+    found: RealAddress,
+    b: u32,
+    rules: u32,
+) -> Quick
+    requires { ⌜ Fits map (now mem) × FetchedFrom (viewBy status map (now mem)) (now mem) start found
+        × (rules < 65536) ⌝ }
+    requires { ⌜ (sizeIn rules ≡ sizeAt (b % 4)) × AllOf (sizeIn rules) (rulesIn rules)
+        × Unaddressed (rulesIn rules) ⌝ }
+    ensures { λ r. ⌜ CarriesOut status map b (rulesIn rules) (now (regs .entry)) (now (mem .entry))
+        (now (regs .exit)) (now (mem .exit)) r ⌝ }
+{
+    let size = rules::size_in(rules);
+    let o = narrow::take_all(mem, regs, status, map, start, found, size, rules);
+    match o {
+        Operands::Ready(x, y, goes) => {
+            let what = effects::narrow_effect_of(b, x, y);
+            match what {
+                Narrow::Gives(v) => Quick::Done(put(mem, regs, status, map, size, v, goes)),
+                Narrow::Flags(f) => Quick::Done(results::with_flags(status, f)),
+                Narrow::Unsure => Quick::Unsure,
+            }
+        }
+        Operands::Unsure => Quick::Unsure,
+    }
+}
+
+// By the size of its operands, which is one for all of them but with CONV.
 fn carry_out(
     mem: &mut [u8],
     regs: &mut [u32; 16],
@@ -195,19 +219,20 @@ fn carry_out(
 ) -> Quick
     requires { ⌜ Fits map (now mem) × FetchedFrom (viewBy status map (now mem)) (now mem) start found
         × (rules < 65536) ⌝ }
+    requires { ⌜ (b < 256) × (rulesIn rules ≡ knownRules (known b))
+        × (sizeIn rules ≡ sizeOf (knownRules (known b))) ⌝ }
     ensures { λ r. ⌜ CarriesOut status map b (rulesIn rules) (now (regs .entry)) (now (mem .entry))
         (now (regs .exit)) (now (mem .exit)) r ⌝ }
 {
-    let o = sure::take_all(mem, regs, status, map, start, found, rules);
-    match o {
-        Operands::Ready(x, y, goes) => {
-            let what = effect_of(b, status % 16, x, y);
-            match what {
-                Effect::Does(action) => finish(mem, regs, status, map, x, goes, action),
-                Effect::Unsure => Quick::Unsure,
+    let size = rules::size_in(rules);
+    match size {
+        Size::W => carry_out_words(mem, regs, status, map, start, found, b, rules),
+        _ => {
+            if b == 0x21 {
+                return Quick::Unsure;
             }
+            carry_out_narrow(mem, regs, status, map, start, found, b, rules)
         }
-        Operands::Unsure => Quick::Unsure,
     }
 }
 

@@ -1,13 +1,10 @@
--- A role by what it does: it writes; it only reads; it takes an address. And a word by its digit.
-use Prim.Native.Nat.{ℕ, _%_}
+-- A role by what it does: it writes; it only reads; it takes an address.
 use mathlib.Core.Path.{_≡_, sym}
 use mathlib.Core.Bool.{true, false, false≢true}
-use borrow.Author.Tests.{eqb-true}
-use Rattle.machine.specs.declared.Size.the-variants.{W}
 use Rattle.machine.specs.declared.Role.{Role}
 use Rattle.machine.specs.declared.Role.the-variants.{Value, Address, Destination, Update}
 use Rattle.machine.specs.Code.{readBy, writtenTo}
-use Rattle.rules.specs.Rules.{sizeIn, wordIn, addressedBy}
+use Rattle.rules.specs.Rules.{addressedBy}
 
 module _ (P : Role → Type 0) where
   pub written-role : P Destination → P Update → (k : Role) → writtenTo k ≡ true → P k
@@ -33,6 +30,3 @@ module _ (P : Role → Type 0) where
   address-role a Address h r = a
   address-role a Destination h r = absurd (false≢true (sym h))
   address-role a Update h r = absurd (false≢true (sym h))
-
-pub word-size : (n : ℕ) → wordIn n ≡ true → W ≡ sizeIn n
-word-size n h = let e : n % 4 ≡ 3 = eqb-true (n % 4) 3 h in rw e

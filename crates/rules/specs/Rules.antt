@@ -2,6 +2,7 @@
 -- number of a list of rules; the table of these numbers, byte by byte; and the mode that a byte
 -- needs.
 use Prim.Native.Nat.{ℕ, zero, suc, _+_, _*_, _/_, _%_}
+use mathlib.Core.Path.{_≡_}
 use mathlib.Core.Bool.{Bool, true, false, _||_}
 use mathlib.Core.List.{List, [], _∷_, _++_}
 use mathlib.Core.Option.{Option, none, some}
@@ -30,10 +31,6 @@ countIn n = n / 0x1000
 -- the size in the lowest digit: 1 for B, 2 for H, 3 for W
 abbrev pub sizeIn : ℕ → Size
 sizeIn n = pick (eqb (n % 4) 1) B (pick (eqb (n % 4) 2) H W)
-
--- the size in the lowest digit is W
-abbrev pub wordIn : ℕ → Bool
-wordIn n = eqb (n % 4) 3
 
 -- the role in the lowest digit: 0 for a value, 1 for an address, 2 for a destination, 3 for an
 -- update
@@ -140,6 +137,23 @@ addressedBy Value = false
 addressedBy Address = true
 addressedBy Destination = false
 addressedBy Update = false
+
+-- ---- Operands of one size
+
+-- the size of the first operand; where there is none, W
+abbrev pub sizeOf : List Rule → Size
+sizeOf [] = W
+sizeOf (k ∷ ks) = k .size
+
+-- these operands all have this size
+abbrev pub AllOf : Size → List Rule → Type 0
+AllOf s [] = Unit {0}
+AllOf s (k ∷ ks) = (s ≡ k .size) × AllOf s ks
+
+-- of none of them the address is taken
+abbrev pub Unaddressed : List Rule → Type 0
+Unaddressed [] = Unit {0}
+Unaddressed (k ∷ ks) = (addressedBy (k .role) ≡ false) × Unaddressed ks
 
 -- ---- The mode
 

@@ -5,7 +5,7 @@ ghost use Prim.Native.Nat.{_<_, _≤_};
 ghost use Rattle.machine.specs.Code.{known, readBy, writtenTo};
 ghost use Rattle.machine.specs.FloatCode.{knownFloat};
 ghost use Rattle.rules.specs.Rules.{addressedBy, countIn, forbiddenOf, kindIn, knownKind, knownRoles};
-ghost use Rattle.rules.specs.Rules.{knownRules, roleIn, rolesIn, rulesIn, sizeIn, tableOf, wordIn};
+ghost use Rattle.rules.specs.Rules.{knownRules, roleIn, rolesIn, rulesIn, sizeIn, sizeOf, tableOf};
 use machine::Kind;
 use machine::Role;
 use machine::Size;
@@ -195,6 +195,7 @@ pub fn rules_of(table: &[u16; 166], b: u32) -> u32
     requires { ⌜ (now table ≡ tableOf) × (b < 256) ⌝ }
     ensures rules { λ r. ⌜ rulesIn r ≡ knownRules (known b) ⌝ }
     ensures small { λ r. ⌜ r < 65536 ⌝ }
+    ensures size { λ r. ⌜ sizeIn r ≡ sizeOf (knownRules (known b)) ⌝ }
 {
     if b < 0x80 {
         return table[b as usize] as u32;
@@ -222,12 +223,14 @@ pub fn count_in(rules: u32) -> u32
     rules / 0x1000
 }
 
-// The size in the lowest digit: the next operand's.
+// The size in the lowest digit: the next operand's. An arm for each number, of which the compiler makes
+// a table.
 pub fn size_in(rules: u32) -> Size
     ensures { λ r. ⌜ r ≡ sizeIn rules ⌝ }
 {
     let k = rules % 4;
     match k {
+        0 => Size::W,
         1 => Size::B,
         2 => Size::H,
         _ => Size::W,
@@ -256,13 +259,6 @@ pub fn role_in(rules: u32) -> Role
         2 => Role::Destination,
         _ => Role::Update,
     }
-}
-
-// Whether the next operand is a word.
-pub fn is_word(rules: u32) -> bool
-    ensures { λ r. ⌜ r ≡ wordIn rules ⌝ }
-{
-    rules % 4 == 3
 }
 
 // Whether a role takes its operand's address.

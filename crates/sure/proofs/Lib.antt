@@ -1,3 +1,3 @@
-pub mod FoundWords
+pub mod Places
 pub mod Taking
 pub mod Remaining

@@ -1,5 +1,5 @@
 -- What a role takes of an operand that is surely there.
-use Prim.Native.Nat.{ℕ, _%_}
+use Prim.Native.Nat.{ℕ, _%_, _<_}
 use mathlib.Core.Path.{_≡_, refl}
 use mathlib.Core.Bool.{true, false, false≢true}
 use Rattle.machine.specs.declared.Access.the-variants.{Read, Write}
@@ -7,7 +7,7 @@ use Rattle.machine.specs.declared.RealAddress.{RealAddress}
 use Rattle.machine.specs.declared.Role.{Role}
 use Rattle.machine.specs.declared.Role.the-variants.{Value, Address, Destination, Update}
 use Rattle.machine.specs.declared.VirtualAddress.{VirtualAddress}
-use Rattle.machine.specs.Words.{pick}
+use Rattle.machine.specs.Words.{pick, span}
 use Rattle.machine.specs.State.{Registers, reg}
 use Rattle.machine.specs.Alarms.{got}
 use Rattle.machine.specs.Map.{View, readBytes}
@@ -23,72 +23,78 @@ use Rattle.sure.specs.declared.Taken.{Taken}
 use Rattle.sure.specs.declared.Taken.the-variants as takes
 use Rattle.sure.specs.Answers.{SpotOf, accessOf, TakenFrom, TakenIn, TakenOf, OperandOf}
 
--- ---- A word in memory
+-- ---- In memory
 
 pub written-access : (k : Role) → writtenTo k ≡ true → accessOf k ≡ Write
 written-access = written-role (λ k. accessOf k ≡ Write) refl refl
 
-module _ (v : View) (x : VirtualAddress) where
-  pub takes-address : (k : Role) → addressedBy k ≡ true → TakenFrom v k (memory x) (takes.Got (x .0) goes.Nowhere)
+module _ (v : View) (L : ℕ) (x : VirtualAddress) where
+  pub takes-address : (k : Role) → addressedBy k ≡ true → TakenFrom v L k (memory x) (takes.Got (x .0) goes.Nowhere)
   unfolding takenBy addressIn
   takes-address Value h = absurd (false≢true h)
   takes-address Address h = record { same = λ place r. refl }
   takes-address Destination h = absurd (false≢true h)
   takes-address Update h = absurd (false≢true h)
 
-  module _ (n : ℕ) (e : readBytes v Read 4 x ≡ got n) where
+  module _ (n : ℕ) (e : readBytes v Read L x ≡ got n) where
     pub takes-written : (a : RealAddress) (k : Role) → writtenTo k ≡ true
-        → TakenFrom v k (memory x) (takes.Got (pick (readBy k) n 0) (goes.Memory x a))
+        → TakenFrom v L k (memory x) (takes.Got (pick (readBy k) n 0) (goes.Memory x a))
     unfolding takenBy valueIn targetIn
     takes-written a =
-        written-role (λ k. TakenFrom v k (memory x) (takes.Got (pick (readBy k) n 0) (goes.Memory x a)))
+        written-role (λ k. TakenFrom v L k (memory x) (takes.Got (pick (readBy k) n 0) (goes.Memory x a)))
         (record { same = λ place r. refl }) (record { same = λ place r. rw e })
 
     pub takes-value : (k : Role) → addressedBy k ≡ false → writtenTo k ≡ false
-        → TakenFrom v k (memory x) (takes.Got (pick (readBy k) n 0) goes.Nowhere)
+        → TakenFrom v L k (memory x) (takes.Got (pick (readBy k) n 0) goes.Nowhere)
     unfolding takenBy valueIn
     takes-value =
-        unaddressed-role (λ k. TakenFrom v k (memory x) (takes.Got (pick (readBy k) n 0) goes.Nowhere))
+        unaddressed-role (λ k. TakenFrom v L k (memory x) (takes.Got (pick (readBy k) n 0) goes.Nowhere))
         (record { same = λ place r. rw e })
 
--- ---- A register
+-- ---- In a register, of which the last L bytes make up n
 
-module _ (v : View) (x n : ℕ) (fits : n % 0x1_0000_0000 ≡ n) where
+module _ (v : View) (L x whole n : ℕ) (low : n ≡ whole % span L) where
   pub register-written : (k : Role) → writtenTo k ≡ true
-      → TakenIn v k x n (takes.Got (pick (readBy k) n 0) (goes.Register x))
+      → TakenIn v L k x whole (takes.Got (pick (readBy k) n 0) (goes.Register x))
   unfolding takenBy valueIn targetIn
   register-written =
-      written-role (λ k. TakenIn v k x n (takes.Got (pick (readBy k) n 0) (goes.Register x)))
-      (record { same = λ place r e. refl }) (record { same = λ place r e. rw (← e, fits) })
+      written-role (λ k. TakenIn v L k x whole (takes.Got (pick (readBy k) n 0) (goes.Register x)))
+      (record { same = λ place r e. refl }) (record { same = λ place r e. rw (low, e) })
 
   pub register-value : (k : Role) → addressedBy k ≡ false → writtenTo k ≡ false
-      → TakenIn v k x n (takes.Got (pick (readBy k) n 0) goes.Nowhere)
+      → TakenIn v L k x whole (takes.Got (pick (readBy k) n 0) goes.Nowhere)
   unfolding takenBy valueIn
   register-value =
-      unaddressed-role (λ k. TakenIn v k x n (takes.Got (pick (readBy k) n 0) goes.Nowhere))
-      (record { same = λ place r e. rw (← e, fits) })
+      unaddressed-role (λ k. TakenIn v L k x whole (takes.Got (pick (readBy k) n 0) goes.Nowhere))
+      (record { same = λ place r e. rw (low, e) })
+
+-- ---- A number
+
+pub number-value : (v : View) (L z : ℕ) → z < span L → TakenOf v L Value (spot.Number z) (takes.Got z goes.Nowhere)
+unfolding takenBy valueIn
+number-value v L z fits = (fits, record { same = λ place r. refl })
 
 -- ---- The operand at R15
 
-pub gives : (v : View) (k : Role) (r : Registers) (f : Fields) → got f ≡ fieldsAt v (reg r 15)
-    → (s : Spot) → SpotOf (past 6 r) f s → (t : Taken) → TakenOf v k s t → OperandOf v k r (past 6 r) t
+pub gives : (v : View) (L : ℕ) (k : Role) (r : Registers) (f : Fields) → got f ≡ fieldsAt v (reg r 15)
+    → (s : Spot) → SpotOf (past 6 r) f s → (t : Taken) → TakenOf v L k s t → OperandOf v L k r (past 6 r) t
 unfolding operandAt
-gives v k r f h (spot.Number z) p (takes.Got n g) q = record {
+gives v L k r f h (spot.Number z) p (takes.Got n g) q = record {
   location = immediate z;
-  found = λ place. rw (← h) (p .same v place);
-  same = λ place. q .same place (past 6 r);
+  found = λ place. rw (← h) (p .same v place L (q .0));
+  same = λ place. q .1 .same place (past 6 r);
 }
-gives v k r f h (spot.Register x y) p (takes.Got n g) q = record {
+gives v L k r f h (spot.Register x y) p (takes.Got n g) q = record {
   location = register x;
-  found = λ place. rw (← h) (p .0 .same v place);
+  found = λ place. rw (← h) (p .0 .same v place L);
   same = λ place. q .same place (past 6 r) (p .1);
 }
-gives v k r f h (spot.Memory a) p (takes.Got n g) q = record {
+gives v L k r f h (spot.Memory a) p (takes.Got n g) q = record {
   location = memory a;
-  found = λ place. rw (← h) (p .same v place);
+  found = λ place. rw (← h) (p .same v place L);
   same = λ place. q .same place (past 6 r);
 }
-gives v k r f h spot.Unsure p t q = rw q tt
-gives v k r f h (spot.Number z) p takes.Unsure q = tt
-gives v k r f h (spot.Register x y) p takes.Unsure q = tt
-gives v k r f h (spot.Memory a) p takes.Unsure q = tt
+gives v L k r f h spot.Unsure p t q = rw q tt
+gives v L k r f h (spot.Number z) p takes.Unsure q = tt
+gives v L k r f h (spot.Register x y) p takes.Unsure q = tt
+gives v L k r f h (spot.Memory a) p takes.Unsure q = tt

@@ -1,13 +1,13 @@
 // Operands that surely give no alarm: words in the forms 0 to 3 whose bytes lie in the command's
 // page, each in a register, immediate, or in one page that may be used so. All else is unsure, of
-// which nothing is said. Only R15 changes.
+// which nothing is said. Only R15 changes. (`narrow` has the same for bytes and halfwords.)
 ghost use mathlib.Core.Path.{_≡_};
 ghost use Prim.Native.Nat.{_<_};
 ghost use Rattle.fetches.specs.Answers.{FetchedFrom};
 ghost use Rattle.lookup.specs.Answers.{Fits};
 ghost use Rattle.machine.specs.Map.{viewBy};
 ghost use Rattle.machine.specs.Operands.{memory};
-ghost use Rattle.rules.specs.Rules.{rulesIn};
+ghost use Rattle.rules.specs.Rules.{AllOf, rulesIn};
 ghost use Rattle.sure.specs.Answers.{OnlyR15, OperandOf, ReachesAll, ReachesTaken, ReadyOf, SmallSpot};
 ghost use Rattle.sure.specs.Answers.{SpotOf, TakenFrom, TakenOf, accessOf};
 use fetches::Nearby;
@@ -16,6 +16,7 @@ use machine::Access;
 use machine::Map;
 use machine::RealAddress;
 use machine::Role;
+use machine::Size;
 use machine::VirtualAddress;
 
 // Where an operand is: its number; a register and what it holds; its address.
@@ -46,8 +47,8 @@ pub enum Operands {
     Unsure,
 }
 
-// A word operand, over registers with R15 past it.
-fn locate(regs: &[u32; 16], form: u32, x: u32, y: u32, z: u32) -> Spot
+// An operand of any size, over registers with R15 past it.
+pub fn locate(regs: &[u32; 16], form: u32, x: u32, y: u32, z: u32) -> Spot
     requires { ⌜ (x < 16) × (y < 16) ⌝ }
     ensures spot { λ r. ⌜ SpotOf (now (regs .entry)) (record { form = form; x = x; y = y; z = z }) r ⌝ }
     ensures small { λ r. ⌜ SmallSpot r ⌝ }
@@ -85,7 +86,7 @@ fn locate(regs: &[u32; 16], form: u32, x: u32, y: u32, z: u32) -> Spot
 // ---- What a role takes
 
 // Why it looks an operand in memory up: one that is written for writing, and once.
-fn access(role: Role) -> Access
+pub fn access(role: Role) -> Access
     ensures { λ r. ⌜ r ≡ accessOf role ⌝ }
 {
     match role {
@@ -99,8 +100,8 @@ fn access(role: Role) -> Access
 // From a word in memory.
 fn take_memory(mem: &[u8], status: u32, map: Map, role: Role, a: VirtualAddress) -> Taken
     requires { ⌜ Fits map (now mem) ⌝ }
-    ensures value { λ r. ⌜ TakenFrom (viewBy status map (now (mem .entry))) role (memory a) r ⌝ }
-    ensures reaches { λ r. ⌜ ReachesTaken status map (now (mem .entry)) r ⌝ }
+    ensures value { λ r. ⌜ TakenFrom (viewBy status map (now (mem .entry))) 4 role (memory a) r ⌝ }
+    ensures reaches { λ r. ⌜ ReachesTaken 4 status map (now (mem .entry)) r ⌝ }
 {
     if rules::addresses(role) {
         return Taken::Got(a.0, Goes::Nowhere);
@@ -122,8 +123,8 @@ fn take_memory(mem: &[u8], status: u32, map: Map, role: Role, a: VirtualAddress)
 
 fn take(mem: &[u8], status: u32, map: Map, role: Role, s: Spot) -> Taken
     requires { ⌜ Fits map (now mem) × SmallSpot s ⌝ }
-    ensures value { λ r. ⌜ TakenOf (viewBy status map (now (mem .entry))) role s r ⌝ }
-    ensures reaches { λ r. ⌜ ReachesTaken status map (now (mem .entry)) r ⌝ }
+    ensures value { λ r. ⌜ TakenOf (viewBy status map (now (mem .entry))) 4 role s r ⌝ }
+    ensures reaches { λ r. ⌜ ReachesTaken 4 status map (now (mem .entry)) r ⌝ }
 {
     match s {
         Spot::Number(z) => match role {
@@ -158,8 +159,8 @@ fn operand(
     role: Role,
 ) -> Taken
     requires { ⌜ Fits map (now mem) × FetchedFrom (viewBy status map (now mem)) (now mem) start found ⌝ }
-    ensures value { λ r. ⌜ OperandOf (viewBy status map (now (mem .entry))) role (now (regs .entry)) (now (regs .exit)) r ⌝ }
-    ensures reaches { λ r. ⌜ ReachesTaken status map (now (mem .entry)) r ⌝ }
+    ensures value { λ r. ⌜ OperandOf (viewBy status map (now (mem .entry))) 4 role (now (regs .entry)) (now (regs .exit)) r ⌝ }
+    ensures reaches { λ r. ⌜ ReachesTaken 4 status map (now (mem .entry)) r ⌝ }
     ensures only { λ r. ⌜ OnlyR15 (now (regs .entry)) (now (regs .exit)) ⌝ }
 {
     let pc = regs[15];
@@ -174,8 +175,8 @@ fn operand(
     }
 }
 
-// The operands that follow the command byte, from R15 on; the byte was fetched from start and lies
-// at found.
+// The operands that follow the command byte, all words, from R15 on; the byte was fetched from start
+// and lies at found.
 pub fn take_all(
     mem: &[u8],
     regs: &mut [u32; 16],
@@ -187,9 +188,10 @@ pub fn take_all(
 ) -> Operands
     requires { ⌜ Fits map (now mem) × FetchedFrom (viewBy status map (now mem)) (now mem) start found
         × (rules < 65536) ⌝ }
+    requires { ⌜ AllOf Size.W (rulesIn rules) ⌝ }
     ensures value { λ r. ⌜ ReadyOf (viewBy status map (now (mem .entry))) (rulesIn rules)
         (now (regs .entry)) (now (regs .exit)) r ⌝ }
-    ensures reaches { λ r. ⌜ ReachesAll status map (now (mem .entry)) r ⌝ }
+    ensures reaches { λ r. ⌜ ReachesAll 4 status map (now (mem .entry)) r ⌝ }
     ensures only { λ r. ⌜ OnlyR15 (now (regs .entry)) (now (regs .exit)) ⌝ }
 {
     let mut first: u32 = 0;
@@ -199,9 +201,6 @@ pub fn take_all(
     let count = rules::count_in(rules);
     let mut rest = rules;
     while place <= count {
-        if !rules::is_word(rest) {
-            return Operands::Unsure;
-        }
         let role = rules::role_in(rest);
         let t = operand(mem, regs, status, map, start, found, role);
         match t {

@@ -1,4 +1,4 @@
--- `size_at` is right: a number that is neither 0 nor 1 is two more than some number.
+-- `size_at` is right: a number that is none of 0 to 2 is two more than some number.
 use Prim.Native.Nat.{ℕ, zero, suc}
 use mathlib.Core.Path.{_≡_, refl}
 use borrow.Author.Needs.{needs}
@@ -12,8 +12,8 @@ word zero p q = absurd (p refl)
 word (suc zero) p q = absurd (q refl)
 word (suc (suc k)) p q = refl
 
-returns-3 : tie.Need-returns-3
-returns-3 c = word _ (c .match .rest .0 .1) (c .match .rest .1)
+returns-4 : tie.Need-returns-4
+returns-4 c = word _ (c .match .rest .0 .0 .1) (c .match .rest .0 .1)
 
 pub size-at-spec : {M : Type 1} → statement M
-size-at-spec = tie.close (tie.spec (λ c. search needs) (λ c. search needs) returns-3)
+size-at-spec = tie.close (tie.spec (λ c. search needs) (λ c. search needs) (λ c. search needs) returns-4)

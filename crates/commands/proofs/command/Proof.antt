@@ -47,7 +47,7 @@ take-all-requires c κs =
     let fetched = c .before .before .before .before .before .before .before .before .before .before in (
       fetched .before .before .before .before .pre .0,
       rw (c .before .before .before .before .before .before .before .before .c2 .given .1) at (fetched .fetch .ensures .1 .1),
-      c .before .before .rules-of .ensures .1,
+      c .before .before .rules-of .ensures .1 .0,
     )
 
 finish-requires : tie.Need-finish-requires

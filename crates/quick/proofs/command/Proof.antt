@@ -12,10 +12,12 @@ rules-of-requires c κs =
 
 carry-out-requires : tie.Need-carry-out-requires
 carry-out-requires c κs =
-    let f = c .before .before .before .before .before .before in (
-      f .before .before .before .before .before .before .pre .0,
-      rw (f .c .given .1) at (f .before .before .fetch .ensures .1 .1),
-      c .before .before .before .rules-of .ensures .1,
+    let f = c .before .before .before .before .before .before in
+    let byte = f .c .given .1 in
+    let fetched = f .before .before .fetch .ensures in
+    let rules = c .before .before .before .rules-of .ensures in (
+      (f .before .before .before .before .before .before .pre .0, rw byte at (fetched .1 .1), rules .1 .0),
+      (rw byte at (fetched .1 .0), rules .0, rules .1 .1),
     )
 
 returns-3 : tie.Need-returns-3

@@ -1,14 +1,15 @@
--- `put` is right for each target: a word replaces a register, and one for the memory is written
--- where its place was found.
+-- `put` is right for each target: a register keeps the rest of its bytes, and a result for the memory
+-- is written where its place was found.
 use mathlib.Core.Path.{refl}
 use borrow.Author.Needs.{needs}
 use Rattle.machine.specs.declared.Access.the-variants.{Write}
 use Rattle.machine.specs.declared.Target.the-variants.{Memory}
+use Rattle.machine.specs.Words.{lengthOf}
 use Rattle.machine.specs.Map.{located, commit}
 use Rattle.machine.specs.Commands.{stored}
-use Rattle.sure.specs.Answers.{WordAt}
-use Rattle.sure.proofs.FoundWords.{word-inside}
-use Rattle.quick.proofs.WordWritten.{word-written}
+use Rattle.sure.specs.Answers.{Placed}
+use Rattle.sure.proofs.Places.{some-bytes, placed-inside}
+use Rattle.quick.proofs.Written.{written}
 use Rattle.quick.proofs.put.Statement.{statement}
 use Rattle.quick.proofs.put.Tie as tie
 
@@ -22,12 +23,14 @@ element-write-regs c =
 
 -- the target's place was found
 found : (c : tie.After-goes2) → let a = c .before .before .before .before .args in
-    WordAt (a .status) (a .map) (a .mem .now) (c .goes2 .given .0 .0) Write (c .goes2 .given .0 .1 .0)
+    Placed (a .status) (a .map) (a .mem .now) (lengthOf (a .size)) (c .goes2 .given .0 .0) Write (c .goes2 .given .0 .1 .0)
 found c = rw (c .goes2 .given .1) at (c .before .before .before .before .pre .1)
 
 value-to-requires : tie.Need-value-to-requires
 value-to-requires c κs =
-    word-inside (found (c .before .before .before)) (c .before .before .before .before .before .before .before .pre .0)
+    let met = c .before .before .before in
+    let start = met .before .before .before .before in
+    placed-inside (some-bytes (start .args .size)) (found met) (start .pre .0)
 
 returns : tie.Need-returns
 unfolding stored located commit
@@ -49,8 +52,8 @@ returns-3 c =
     let start = met .before .before .before .before in
     let a = start .args in
     rw (met .goes2 .given .1, met .before .before .with-flags .ensures)
-    (word-written (found met) (start .pre .0)
-    (stored 4 (a .x) (Memory (met .goes2 .given .0 .0)) (a .regs .now)) (a .x .value) refl
+    (written (some-bytes (a .size)) (found met) (start .pre .0)
+    (stored (lengthOf (a .size)) (a .x) (Memory (met .goes2 .given .0 .0)) (a .regs .now)) (a .x .value) refl
     (c .before .before .value-to .ensures))
 
 pub put-spec : {M : Type 1} → statement M

@@ -1,5 +1,6 @@
 -- `ret` is right: where the word at SP is found, it goes to R15 and SP is raised; elsewhere nothing
 -- is done.
+use native.Mathlib.Omega.{arith}
 use borrow.Author.Needs.{needs}
 use Rattle.machine.specs.declared.Access.the-variants.{Read}
 use Rattle.machine.specs.State.{reg}
@@ -7,19 +8,19 @@ use Rattle.machine.specs.Map.{located, commit}
 use Rattle.machine.specs.Commands.{returned}
 use Rattle.reads.proofs.Reading.{read-virtual}
 use Rattle.results.proofs.Ends.{same-status}
-use Rattle.sure.specs.Answers.{WordAt}
-use Rattle.sure.proofs.FoundWords.{word-at, word-inside, word-read}
+use Rattle.sure.specs.Answers.{Placed}
+use Rattle.sure.proofs.Places.{placed, placed-inside, word-read}
 use Rattle.quick.proofs.ret.Statement.{statement}
 use Rattle.quick.proofs.ret.Tie as tie
 
 -- the word at SP is found
 found : (c : tie.After-s) → let a = c .before .before .before .before .before .args in
-    WordAt (a .status) (a .map) (a .mem .now) (record { 0 = reg (a .regs .now) 14 }) Read (c .s .given .0 .0)
-found c = word-at (c .s .given .1) (c .before .before .look-whole .ensures)
+    Placed (a .status) (a .map) (a .mem .now) 4 (record { 0 = reg (a .regs .now) 14 }) Read (c .s .given .0 .0)
+found c = placed (c .s .given .1) (c .before .before .look-whole .ensures)
 
 word-requires : tie.Need-word-requires
 word-requires c κs =
-    word-inside (found (c .before .before)) (c .before .before .before .before .before .before .before .pre)
+    placed-inside (omega arith) (found (c .before .before)) (c .before .before .before .before .before .before .before .pre)
 
 returns : tie.Need-returns
 unfolding returned located commit

@@ -1,7 +1,7 @@
 -- `rules_of` is right: each number of the table reads as its byte's rules, and a byte past the
 -- table is unknown.
 use Prim.Native.Nat.{ℕ, _≤_, _<_}
-use mathlib.Core.Path.{_≡_, refl}
+use mathlib.Core.Path.{_≡_, refl, ap}
 use mathlib.Core.Bool.{true}
 use mathlib.Core.List.{[]}
 use native.Mathlib.Omega.{arith}
@@ -11,7 +11,8 @@ use lib.Dec.{ltb}
 use lib.ListN.{getD}
 use Rattle.machine.specs.Code.{table, knownIn, known}
 use Rattle.machine.specs.FloatCode.{floatTable, knownFloatIn, knownFloat}
-use Rattle.rules.specs.Rules.{rulesFrom, rulesIn, knownRules, numbersFrom, floatNumbersFrom, tableOf}
+use Rattle.rules.specs.Rules.{sizeIn, rulesFrom, rulesIn, knownRules, numbersFrom, floatNumbersFrom, tableOf}
+use Rattle.rules.specs.Rules.{sizeOf}
 use Rattle.machine.proofs.CommandBytes.{same}
 use Rattle.rules.proofs.rules_of.Statement.{statement}
 use Rattle.rules.proofs.rules_of.Tie as tie
@@ -24,6 +25,10 @@ rules : (b : ℕ) → b < 0x80 → rulesIn (getD tableOf b 0) ≡ knownRules (kn
 unfolding table knownIn known floatTable knownFloatIn knownFloat numbersFrom floatNumbersFrom tableOf rulesFrom
 rules b h = same (λ k. rulesIn (getD tableOf k 0)) (λ k. knownRules (known k)) 0x80 0 refl b (omega arith) h
 
+sizes : (b : ℕ) → b < 0x80 → sizeIn (getD tableOf b 0) ≡ sizeOf (knownRules (known b))
+unfolding table knownIn known floatTable knownFloatIn knownFloat numbersFrom floatNumbersFrom tableOf
+sizes b h = same (λ k. sizeIn (getD tableOf k 0)) (λ k. sizeOf (knownRules (known k))) 0x80 0 refl b (omega arith) h
+
 past : (b : ℕ) → 0x80 ≤ b → b < 256 → [] ≡ knownRules (known b)
 unfolding table knownIn known
 past b l h = same (λ k. []) (λ k. knownRules (known k)) 0x80 0x80 refl b l h
@@ -35,11 +40,15 @@ cast-result c =
     record { fits = rw (start .pre .0) (omega arith) }
 
 returns : tie.Need-returns
-returns c = rw (c .before .before .pre .0) (rules _ (c .before .if1 .taken), below _ (c .before .if1 .taken))
+returns c =
+    let low = c .before .if1 .taken in
+    rw (c .before .before .pre .0) (rules _ low, (below _ low, sizes _ low))
 
 returns-2 : tie.Need-returns-2
 unfolding rulesFrom
-returns-2 c = (past _ (c .if1 .left) (c .before .pre .1), omega arith)
+returns-2 c =
+    let none = past _ (c .if1 .left) (c .before .pre .1) in
+    (none, (omega arith, ap sizeOf none))
 
 pub rules-of-spec : {M : Type 1} → statement M
 rules-of-spec =

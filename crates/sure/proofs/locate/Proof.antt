@@ -1,11 +1,9 @@
 -- `locate` is right: each arm is one form, with its rule first; a word's address wraps once.
 use mathlib.Core.Path.{_≡_, refl}
-use mathlib.Core.Bool.{true}
-use lib.Dec.{ltb}
 use native.Mathlib.Omega.{arith}
 use borrow.Author.Tests.{eq-eqb, lt-ltb}
 use borrow.Author.Needs.{needs}
-use Rattle.machine.specs.Words.{span, wrap}
+use Rattle.machine.specs.Words.{wrap}
 use Rattle.machine.specs.Operands.{keepsRules, byForm}
 use Rattle.sure.proofs.locate.Statement.{statement}
 use Rattle.sure.proofs.locate.Tie as tie
@@ -18,7 +16,7 @@ returns : tie.Need-returns
 unfolding keepsRules byForm
 returns c = (
   record {
-    same = λ v place.
+    same = λ v place L.
         simp (
           c .before .before .match .keys1,
           c .before .if1 .taken,
@@ -31,17 +29,20 @@ returns c = (
 
 returns-2 : tie.Need-returns-2
 unfolding keepsRules byForm
-returns-2 c =
-    let small : ltb (c .before .before .before .args .z) (span 4) ≡ true = lt-ltb (c .before .before .before .args .z) (span 4)
-    (omega arith) in
-    (record { same = λ v place. simp (c .before .before .match .keys2, c .before .if3 .taken, c .if4 .taken, small) }, tt)
+returns-2 c = (
+  record {
+    same = λ v place L fits.
+        simp (c .before .before .match .keys2, c .before .if3 .taken, c .if4 .taken, lt-ltb _ _ fits);
+  },
+  tt,
+)
 
 returns-3 : tie.Need-returns-3
 unfolding keepsRules byForm
 returns-3 c = (
   (
     record {
-      same = λ v place.
+      same = λ v place L.
           simp (
             c .before .before .before .match .keys3,
             eq-eqb _ _ (c .before .before .if5 .taken),
@@ -57,7 +58,7 @@ returns-4 : tie.Need-returns-4
 unfolding keepsRules byForm
 returns-4 c = (
   record {
-    same = λ v place.
+    same = λ v place L.
         simp (
           c .before .before .before .match .keys4,
           eq-eqb _ _ (c .before .before .if7 .taken),

@@ -26,7 +26,7 @@ returns-2 c =
     let told = rw (f .f .given .1) at (f .before .before .near .ensures) in
     let plus = c .before .before .before .plus .ensures in (
       rw plus
-          (gives _ _ _ _ (told .0) (c .before .locate .result) (rw plus at (c .before .locate .ensures .0))
+          (gives _ _ _ _ _ (told .0) (c .before .locate .result) (rw plus at (c .before .locate .ensures .0))
           (c .take .result) (c .take .ensures .0)),
       (c .take .ensures .1, record { r15 = _; same = refl }),
     )

@@ -2,8 +2,7 @@
 use mathlib.Core.Path.{_≡_, refl, sym, _∙_}
 use native.Mathlib.Omega.{arith}
 use borrow.Author.Needs.{needs}
-use Rattle.machine.specs.Operands.{valueIn, takenBy}
-use Rattle.sure.proofs.Taking.{register-written, register-value}
+use Rattle.sure.proofs.Taking.{register-written, register-value, number-value}
 use Rattle.sure.proofs.take.Statement.{statement}
 use Rattle.sure.proofs.take.Tie as tie
 
@@ -14,23 +13,22 @@ returns-2 : tie.Need-returns-2
 returns-2 c =
     let r = c .before .before .before .before .before .before in (
       rw (r .s2 .given .1, c .before .before .number .ensures)
-          (register-written _ _ _ (omega arith) _ (sym (c .before .writes .ensures) ∙ c .if2 .taken)),
+          (register-written _ _ _ _ _ (omega arith) _ (sym (c .before .writes .ensures) ∙ c .if2 .taken)),
       rw (r .s2 .given .1) at (r .before .before .before .pre .1),
     )
 
 returns-3 : tie.Need-returns-3
-unfolding takenBy valueIn
 returns-3 c =
-    (rw (c .before .before .before .s .given .1, c .enum-told .given .1) (record { same = λ place r. refl }), tt)
+    (rw (c .before .before .before .s .given .1, c .enum-told .given .1) (number-value _ _ _ (omega arith)), tt)
 
 returns-4 : tie.Need-returns-4
-returns-4 c = (rw (c .before .before .s .given .1) (record { same = λ place r. tt }), tt)
+returns-4 c = (rw (c .before .before .s .given .1) (tt, record { same = λ place r. tt }), tt)
 
 returns-5 : tie.Need-returns-5
 returns-5 c =
     let r = c .before .before .before .before .before .before in (
       rw (r .s2 .given .1, c .before .before .number .ensures)
-          (register-value _ _ _ (omega arith) _
+          (register-value _ _ _ _ _ (omega arith) _
           (sym (c .before .before .before .before .addresses .ensures) ∙ c .before .before .before .if1 .left)
           (sym (c .before .writes .ensures) ∙ c .if2 .left)),
       tt,

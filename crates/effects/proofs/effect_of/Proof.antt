@@ -1,18 +1,16 @@
 -- `effect_of` is right: each arm's bytes ask for what its calls give, and of other bytes nothing is
 -- said.
-use Prim.Native.Nat.{ℕ}
 use mathlib.Core.Path.{_≡_, refl}
-use mathlib.Core.Logic.{_⊎_, ⊎-elim}
 use native.Mathlib.Nat.{zero-mod, mod-eq-of-lt}
 use borrow.Author.Needs.{needs}
 use Rattle.machine.specs.declared.Size.the-variants.{W}
-use Rattle.machine.specs.Code.{OR, ANDNOT, XOR, ADD, SUB, MULT, Common, result, table, knownIn, known}
+use Rattle.machine.specs.Code.{OR, ANDNOT, XOR, ADD, SUB, MULT, table, knownIn, known}
 use Rattle.machine.specs.Integers.{natural, operate}
 use Rattle.machine.specs.Commands.{jumps}
-use Rattle.actions.specs.declared.Action.{Action}
-use Rattle.actions.specs.Actions.{commonAction, actionOf}
-use Rattle.quick.proofs.effect_of.Statement.{statement}
-use Rattle.quick.proofs.effect_of.Tie as tie
+use Rattle.actions.specs.Actions.{actionOf}
+use Rattle.effects.proofs.Asking.{does}
+use Rattle.effects.proofs.effect_of.Statement.{statement}
+use Rattle.effects.proofs.effect_of.Tie as tie
 
 module _ (c : tie.Start) where
   word-x : natural 4 (c .args .x) ≡ c .args .x
@@ -20,18 +18,6 @@ module _ (c : tie.Start) where
 
   word-y : natural 4 (c .args .y) ≡ c .args .y
   word-y = mod-eq-of-lt (c .fits .y .fits)
-
-  -- what a byte asks for, and what a command does
-  abbrev act : ℕ → Action
-  act b = actionOf b (c .args .f) (c .args .x) (c .args .y)
-
-  abbrev does : Common → Action
-  does k = commonAction k (c .args .f) (c .args .x) (c .args .y)
-
-  -- the byte is one of two that both ask for the command k
-  either : (k : Common) {m n : ℕ} → act m ≡ does k → act n ≡ does k → (c .args .b ≡ m) ⊎ (c .args .b ≡ n)
-      → act (c .args .b) ≡ does k
-  either k p q = ⊎-elim (λ e. rw e p) (λ e. rw e q)
 
 pub effect-of-spec : {M : Type 1} → statement M
 unfolding actionOf known knownIn table operate jumps
@@ -61,35 +47,23 @@ effect-of-spec =
     ))
     (λ c. simp (c .gives5 .ensures, c .before .plain4 .ensures .0, c .before .before .match .keys5, word-x (search)))
     -- the commands of two bytes
-    (λ c. simp (
-      c .gives6 .ensures,
-      c .before .or .ensures,
-      either (search) (result OR W) refl refl (c .before .before .match .keys6),
-    ))
+    (λ c. simp (c .gives6 .ensures, c .before .or .ensures, does OR W refl refl (c .before .before .match .keys6)))
     (λ c. simp (
       c .gives7 .ensures,
       c .before .and-not .ensures,
-      either (search) (result ANDNOT W) refl refl (c .before .before .match .keys7),
+      does ANDNOT W refl refl (c .before .before .match .keys7),
     ))
-    (λ c. simp (
-      c .gives8 .ensures,
-      c .before .xor .ensures,
-      either (search) (result XOR W) refl refl (c .before .before .match .keys8),
-    ))
-    (λ c. simp (
-      c .gives9 .ensures,
-      c .before .add .ensures .0,
-      either (search) (result ADD W) refl refl (c .before .before .match .keys9),
-    ))
+    (λ c. simp (c .gives8 .ensures, c .before .xor .ensures, does XOR W refl refl (c .before .before .match .keys8)))
+    (λ c. simp (c .gives9 .ensures, c .before .add .ensures .0, does ADD W refl refl (c .before .before .match .keys9)))
     (λ c. simp (
       c .gives10 .ensures,
       c .before .subtract2 .ensures .0,
-      either (search) (result SUB W) refl refl (c .before .before .match .keys10),
+      does SUB W refl refl (c .before .before .match .keys10),
     ))
     (λ c. simp (
       c .gives11 .ensures,
       c .before .multiply .ensures .0,
-      either (search) (result MULT W) refl refl (c .before .before .match .keys11),
+      does MULT W refl refl (c .before .before .match .keys11),
     ))
     -- SH, ROT and CMP
     (λ c. simp (

@@ -1,5 +1,5 @@
--- What is known of a word that was found: its address has 32 bits, it lies in memory, and it may be
--- read there, for whatever reason it was looked up.
+-- What is known of bytes that were found in one page: their address has 32 bits, they lie in memory,
+-- and they may be read there, for whatever reason they were looked up.
 use Prim.Native.Nat.{ℕ, _+_, _≤_, _<_}
 use mathlib.Core.Path.{_≡_, refl, sym, ap, _∙_}
 use mathlib.Core.Bool.{Bool, true, false}
@@ -12,8 +12,9 @@ use Rattle.machine.specs.declared.Access.the-variants.{Read}
 use Rattle.machine.specs.declared.Alarm.{Alarm}
 use Rattle.machine.specs.declared.Map.{Map}
 use Rattle.machine.specs.declared.RealAddress.{RealAddress}
+use Rattle.machine.specs.declared.Size.{Size}
 use Rattle.machine.specs.declared.VirtualAddress.{VirtualAddress}
-use Rattle.machine.specs.Words.{pick, Memory, wordAt}
+use Rattle.machine.specs.Words.{pick, Memory, lengthOf, valueAt, wordAt}
 use Rattle.machine.specs.State.{userMode}
 use Rattle.machine.specs.Alarms.{got, alarm}
 use Rattle.machine.specs.Map.{pageOf, mapEntry, present, frameOf, undamaged, Found, foundAt, inFrame, allowsWrite}
@@ -24,14 +25,15 @@ use Rattle.machine.proofs.Views.{order-got}
 use Rattle.lookup.specs.declared.Whole.{Whole}
 use Rattle.lookup.specs.declared.Whole.the-variants as whole
 use Rattle.lookup.specs.Answers.{Fits, WholeOf}
+use Rattle.words.proofs.Values.{length-bounds}
 use Rattle.lookup.proofs.Wholes.{Adjoin, adjoin-inside, adjoin-read}
-use Rattle.sure.specs.Answers.{WordAt}
+use Rattle.sure.specs.Answers.{Placed}
 
 -- an answer that names a place
-pub word-at : {s : ℕ} {map : Map} {m : Memory} {x : VirtualAddress} {w : Access} {a : RealAddress} {q : Whole}
-    → q ≡ whole.At a → WholeOf (viewBy s map m) m x 4 w q → WordAt s map m x w a
-word-at {s} {map} {m} {x} {w} {a} e h =
-    let told : InOnePage x 4 × (viewBy s map m x w ≡ got (foundAt m a)) = rw e at h in
+pub placed : {s : ℕ} {map : Map} {m : Memory} {n : ℕ} {x : VirtualAddress} {w : Access} {a : RealAddress} {q : Whole}
+    → q ≡ whole.At a → WholeOf (viewBy s map m) m x n w q → Placed s map m n x w a
+placed {s} {map} {m} {n} {x} {w} {a} e h =
+    let told : InOnePage x n × (viewBy s map m x w ≡ got (foundAt m a)) = rw e at h in
     record { hit = told .1; near = told .0 }
 
 -- ---- An address that is found has 32 bits: the map and the memory are small
@@ -66,24 +68,33 @@ readable s map m x w f = go (userMode s)
         rw (t .0, t .1, t .2) (ap got (t .5))
     go false h = h
 
--- ---- The word
+-- ---- The bytes
 
--- its bytes adjoin each other, for any reason that its first byte is found for
-adjoins : {s : ℕ} {map : Map} {m : Memory} {x : VirtualAddress} {w : Access} {a : RealAddress} → Fits map m
-    → InOnePage x 4 → viewBy s map m x w ≡ got (foundAt m a) → Adjoin s map m x w 4 a
-adjoins {s} {x = x} {w = w} fits near hit = record {
-  bytes = record { frames = fits .whole; address = found-small s x w fits hit; some = omega arith; page = near };
-  hit = hit;
-}
+-- a value has some
+pub some-bytes : (size : Size) → 0 < lengthOf size
+some-bytes size = omega (arith, length-bounds size)
 
-module _ {s : ℕ} {map : Map} {m : Memory} {x : VirtualAddress} {w : Access} {a : RealAddress}
-    (f : WordAt s map m x w a) (fits : Fits map m) where
-  pub word-adjoins : Adjoin s map m x w 4 a
-  word-adjoins = adjoins fits (f .near) (f .hit)
+module _ {n : ℕ} (some : 0 < n) where
+  -- they adjoin each other, for any reason that the first is found for
+  adjoins : {s : ℕ} {map : Map} {m : Memory} {x : VirtualAddress} {w : Access} {a : RealAddress} → Fits map m
+      → InOnePage x n → viewBy s map m x w ≡ got (foundAt m a) → Adjoin s map m x w n a
+  adjoins {s} {x = x} {w = w} fits near hit = record {
+    bytes = record { frames = fits .whole; address = found-small s x w fits hit; some = some; page = near };
+    hit = hit;
+  }
 
-  pub word-inside : a .0 + 4 ≤ length m
-  word-inside = adjoin-inside word-adjoins
+  module _ {s : ℕ} {map : Map} {m : Memory} {x : VirtualAddress} {w : Access} {a : RealAddress}
+      (f : Placed s map m n x w a) (fits : Fits map m) where
+    pub placed-adjoins : Adjoin s map m x w n a
+    placed-adjoins = adjoins fits (f .near) (f .hit)
 
-  pub word-read : readBytes (viewBy s map m) Read 4 x ≡ got (wordAt m (a .0))
-  word-read =
-      adjoin-read (adjoins fits (f .near) (readable s map m x w _ (f .hit))) ∙ ap got (sym (four-byte-value m (a .0)))
+    pub placed-inside : a .0 + n ≤ length m
+    placed-inside = adjoin-inside placed-adjoins
+
+    pub placed-read : readBytes (viewBy s map m) Read n x ≡ got (valueAt m n (a .0) 0)
+    placed-read = adjoin-read (adjoins fits (f .near) (readable s map m x w _ (f .hit)))
+
+-- a word
+pub word-read : {s : ℕ} {map : Map} {m : Memory} {x : VirtualAddress} {w : Access} {a : RealAddress}
+    → Placed s map m 4 x w a → Fits map m → readBytes (viewBy s map m) Read 4 x ≡ got (wordAt m (a .0))
+word-read {m = m} {a = a} f fits = placed-read (omega arith) f fits ∙ ap got (sym (four-byte-value m (a .0)))
