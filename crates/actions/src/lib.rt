@@ -26,9 +26,8 @@ pub enum Action {
     Alarm(u32, Alarm),
 }
 
-// The size of the k-th byte of a row. An arm for each number below 4, of which the compiler makes a
-// table.
-pub fn size_at(k: u32) -> Size
+// The size of a row's byte k. Arms for 0, 1 and 2, of which the compiler makes a table.
+fn size_at(k: u32) -> Size
     ensures { λ r. ⌜ r ≡ sizeAt k ⌝ }
 {
     match k {

@@ -8,8 +8,8 @@ use Rattle.actions.specs.declared.Action.the-variants as action
 use Rattle.actions.specs.Actions.{actionOf}
 use Rattle.effects.specs.declared.Effect.{Effect}
 use Rattle.effects.specs.declared.Effect.the-variants as effect
-use Rattle.effects.specs.declared.Narrow.{Narrow}
-use Rattle.effects.specs.declared.Narrow.the-variants as narrow
+use Rattle.effects.specs.declared.NarrowEffect.{NarrowEffect}
+use Rattle.effects.specs.declared.NarrowEffect.the-variants as narrow
 
 -- an effect is what the command byte does
 abbrev pub EffectOf : ℕ → ℕ → ℕ → ℕ → Effect → Type 0
@@ -21,7 +21,7 @@ pub record Acts (b x y : ℕ) (a : Action) : Type 0 where
   pub same : (f : ℕ) → a ≡ actionOf b f x y
 
 -- "Add k = 0, 1, 2 for B, H, W": a result has the size of its byte
-abbrev pub NarrowOf : ℕ → ℕ → ℕ → Narrow → Type 0
+abbrev pub NarrowOf : ℕ → ℕ → ℕ → NarrowEffect → Type 0
 NarrowOf b x y (narrow.Gives v) = Acts b x y (action.Give (sizeAt (b % 4)) v)
 NarrowOf b x y (narrow.Flags g) = Acts b x y (action.Flags g)
 NarrowOf b x y narrow.Unsure = Unit {0}

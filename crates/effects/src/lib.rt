@@ -25,8 +25,7 @@ fn jumps(taken: bool) -> Effect
     Effect::Does(Action::Jump(taken))
 }
 
-// The operation of a command byte, as `actions` has it, for words and jumps. Single bytes, so that
-// the compiler makes a table of jumps.
+// The operation of a command byte on words, a jump, CALL or RET.
 pub fn effect_of(b: u32, f: u32, x: u32, y: u32) -> Effect
     ensures { λ r. ⌜ EffectOf b f x y r ⌝ }
 {
@@ -62,39 +61,39 @@ pub fn effect_of(b: u32, f: u32, x: u32, y: u32) -> Effect
 
 // What a command on bytes or halfwords does with its operands' numbers: a result of its size; new
 // flags alone.
-pub enum Narrow {
+pub enum NarrowEffect {
     Gives(Result),
     Flags(u32),
     Unsure,
 }
 
 // The same for bytes and halfwords.
-pub fn narrow_effect_of(b: u32, x: u32, y: u32) -> Narrow
+pub fn narrow_effect_of(b: u32, x: u32, y: u32) -> NarrowEffect
     ensures { λ r. ⌜ NarrowOf b x y r ⌝ }
 {
     match b {
-        0x10 => Narrow::Gives(integers::plain(Size::B, integers::low(Size::B, x))),
-        0x14 => Narrow::Gives(integers::plain(Size::B, 0)),
-        0x18 => Narrow::Gives(sums::subtract(Size::B, x, 0)),
-        0x1C => Narrow::Gives(integers::plain(Size::B, integers::complement(Size::B, x))),
-        0x28 | 0x2C => Narrow::Gives(integers::or(Size::B, x, y)),
-        0x30 | 0x34 => Narrow::Gives(integers::and_not(Size::B, x, y)),
-        0x38 | 0x3C => Narrow::Gives(integers::xor(Size::B, x, y)),
-        0x40 | 0x44 => Narrow::Gives(sums::add(Size::B, x, y)),
-        0x48 | 0x4C => Narrow::Gives(sums::subtract(Size::B, x, y)),
-        0x50 | 0x54 => Narrow::Gives(products::multiply(Size::B, x, y)),
-        0x64 => Narrow::Flags(sums::compare(Size::B, x, y)),
-        0x11 => Narrow::Gives(integers::plain(Size::H, integers::low(Size::H, x))),
-        0x15 => Narrow::Gives(integers::plain(Size::H, 0)),
-        0x19 => Narrow::Gives(sums::subtract(Size::H, x, 0)),
-        0x1D => Narrow::Gives(integers::plain(Size::H, integers::complement(Size::H, x))),
-        0x29 | 0x2D => Narrow::Gives(integers::or(Size::H, x, y)),
-        0x31 | 0x35 => Narrow::Gives(integers::and_not(Size::H, x, y)),
-        0x39 | 0x3D => Narrow::Gives(integers::xor(Size::H, x, y)),
-        0x41 | 0x45 => Narrow::Gives(sums::add(Size::H, x, y)),
-        0x49 | 0x4D => Narrow::Gives(sums::subtract(Size::H, x, y)),
-        0x51 | 0x55 => Narrow::Gives(products::multiply(Size::H, x, y)),
-        0x65 => Narrow::Flags(sums::compare(Size::H, x, y)),
-        _ => Narrow::Unsure,
+        0x10 => NarrowEffect::Gives(integers::plain(Size::B, integers::low(Size::B, x))),
+        0x14 => NarrowEffect::Gives(integers::plain(Size::B, 0)),
+        0x18 => NarrowEffect::Gives(sums::subtract(Size::B, x, 0)),
+        0x1C => NarrowEffect::Gives(integers::plain(Size::B, integers::complement(Size::B, x))),
+        0x28 | 0x2C => NarrowEffect::Gives(integers::or(Size::B, x, y)),
+        0x30 | 0x34 => NarrowEffect::Gives(integers::and_not(Size::B, x, y)),
+        0x38 | 0x3C => NarrowEffect::Gives(integers::xor(Size::B, x, y)),
+        0x40 | 0x44 => NarrowEffect::Gives(sums::add(Size::B, x, y)),
+        0x48 | 0x4C => NarrowEffect::Gives(sums::subtract(Size::B, x, y)),
+        0x50 | 0x54 => NarrowEffect::Gives(products::multiply(Size::B, x, y)),
+        0x64 => NarrowEffect::Flags(sums::compare(Size::B, x, y)),
+        0x11 => NarrowEffect::Gives(integers::plain(Size::H, integers::low(Size::H, x))),
+        0x15 => NarrowEffect::Gives(integers::plain(Size::H, 0)),
+        0x19 => NarrowEffect::Gives(sums::subtract(Size::H, x, 0)),
+        0x1D => NarrowEffect::Gives(integers::plain(Size::H, integers::complement(Size::H, x))),
+        0x29 | 0x2D => NarrowEffect::Gives(integers::or(Size::H, x, y)),
+        0x31 | 0x35 => NarrowEffect::Gives(integers::and_not(Size::H, x, y)),
+        0x39 | 0x3D => NarrowEffect::Gives(integers::xor(Size::H, x, y)),
+        0x41 | 0x45 => NarrowEffect::Gives(sums::add(Size::H, x, y)),
+        0x49 | 0x4D => NarrowEffect::Gives(sums::subtract(Size::H, x, y)),
+        0x51 | 0x55 => NarrowEffect::Gives(products::multiply(Size::H, x, y)),
+        0x65 => NarrowEffect::Flags(sums::compare(Size::H, x, y)),
+        _ => NarrowEffect::Unsure,
     }
 }

@@ -37,7 +37,8 @@ frameFor Read e =
     low % 0x2000_0000 + low / 0x8000_0000 * 0x8000_0000
 frameFor Write e = let a = lowered e 0xC000_0000 in let b = lowered e 0xE000_0000 in pick (ltb a b) a b
 
--- the alarm of an entry that is sound but does not allow an access; each that is allows reading
+-- the alarm of an entry that is sound but does not allow an access; each sound one allows reading, so
+-- that of reading is never asked
 abbrev pub closedTo : Access → Alarm
 closedTo Fetch = alarms.NoFetch
 closedTo Read = alarms.MapEntry

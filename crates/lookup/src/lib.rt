@@ -49,8 +49,8 @@ fn lesser(a: u32, b: u32) -> u32
     if a < b { a } else { b }
 }
 
-// The frame of an entry that allows this access; else a number past every frame. Taken off are the bits
-// that must be set, and those that do not matter: the bit for writing to a fetch, that against
+// The frame of an entry that allows this access; else a number past every frame. Taken off are the
+// bits that must be set, and those that do not matter: the bit for writing to a fetch, that against
 // fetching to a write, both to a read.
 fn frame_for(why: Access, e: u32) -> u32
     ensures { λ r. ⌜ r ≡ frameFor why e ⌝ }
@@ -65,7 +65,8 @@ fn frame_for(why: Access, e: u32) -> u32
     }
 }
 
-// The alarm of an entry that does not allow this access, of a memory with so many frames.
+// The alarm of an entry that does not allow this access, of a memory with so many frames. A sound
+// entry always allows reading.
 fn refused(why: Access, e: u32, frames: usize) -> Alarm
     ensures { λ r. ⌜ r ≡ refusedFor why e frames ⌝ }
 {

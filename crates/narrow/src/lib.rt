@@ -1,6 +1,6 @@
 // Operands of bytes and halfwords that surely give no alarm, in the forms 0 to 3, as `sure` has them
-// for words. There the size is a constant, here it is known when the command runs: of one function
-// for all sizes words would pay for the test of the size.
+// for words. There the size is a constant, here it is known when the command runs: with one function
+// for all sizes, words would pay for the test of the size.
 ghost use mathlib.Core.Path.{_≡_};
 ghost use mathlib.Core.Bool.{false};
 ghost use Prim.Native.Nat.{_<_};

@@ -18,7 +18,7 @@ ghost use Prim.Native.Nat.{_%_, _<_};
 ghost use Rattle.sure.specs.Answers.{Reaches, targetOf};
 use actions::Action;
 use effects::Effect;
-use effects::Narrow;
+use effects::NarrowEffect;
 use fetches::CommandByte;
 use lookup::Whole;
 use machine::Access;
@@ -197,16 +197,17 @@ fn carry_out_narrow(
         Operands::Ready(x, y, goes) => {
             let what = effects::narrow_effect_of(b, x, y);
             match what {
-                Narrow::Gives(v) => Quick::Done(put(mem, regs, status, map, size, v, goes)),
-                Narrow::Flags(f) => Quick::Done(results::with_flags(status, f)),
-                Narrow::Unsure => Quick::Unsure,
+                NarrowEffect::Gives(v) => Quick::Done(put(mem, regs, status, map, size, v, goes)),
+                NarrowEffect::Flags(f) => Quick::Done(results::with_flags(status, f)),
+                NarrowEffect::Unsure => Quick::Unsure,
             }
         }
         Operands::Unsure => Quick::Unsure,
     }
 }
 
-// By the size of its operands, which is one for all of them but with CONV.
+// The same for any command, by the size of its first operand, which all its operands have; but CONV
+// (0x21), from a byte to a word, is left to the general way.
 fn carry_out(
     mem: &mut [u8],
     regs: &mut [u32; 16],

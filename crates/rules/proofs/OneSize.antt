@@ -5,13 +5,14 @@ use mathlib.Core.Path.{_≡_, refl, sym, subst}
 use mathlib.Core.Bool.{Bool, true, false, not, _&&_, _||_, false≢true}
 use mathlib.Core.List.{List, [], _∷_}
 use native.Mathlib.Omega.{arith}
-use borrow.Author.Tests.{ne-eqb}
+use borrow.Author.Tests.{ne-eqb, not-true}
 use lib.Dec.{eqb}
 use Rattle.machine.specs.declared.Size.{Size}
 use Rattle.machine.specs.declared.Size.the-variants.{B, H, W}
 use Rattle.machine.specs.Words.{sizeAt}
 use Rattle.machine.specs.Code.{Rule, table, knownIn, known}
 use Rattle.machine.proofs.CommandBytes.{same}
+use Rattle.machine.proofs.Widths.{and-true}
 use Rattle.rules.specs.Rules.{knownRules, sizeNumber, addressedBy, sizeOf, AllOf, Unaddressed}
 
 -- ---- The tests, and what they tell
@@ -26,14 +27,6 @@ allOf s (k ∷ ks) = sameSize s (k .size) && allOf s ks
 unaddressed : List Rule → Bool
 unaddressed [] = true
 unaddressed (k ∷ ks) = not (addressedBy (k .role)) && unaddressed ks
-
-both : (p q : Bool) → (p && q) ≡ true → (p ≡ true) × (q ≡ true)
-both true q h = (refl, h)
-both false q h = absurd (false≢true h)
-
-fails : (p : Bool) → not p ≡ true → p ≡ false
-fails true h = absurd (false≢true h)
-fails false h = refl
 
 same-size : (s t : Size) → sameSize s t ≡ true → s ≡ t
 unfolding sameSize
@@ -50,12 +43,12 @@ same-size W W h = refl
 all-of : (s : Size) (ks : List Rule) → allOf s ks ≡ true → AllOf s ks
 unfolding allOf
 all-of s [] h = tt
-all-of s (k ∷ ks) h = let t = both _ _ h in (same-size s (k .size) (t .0), all-of s ks (t .1))
+all-of s (k ∷ ks) h = let t = and-true _ _ h in (same-size s (k .size) (t .0), all-of s ks (t .1))
 
 none-addressed : (ks : List Rule) → unaddressed ks ≡ true → Unaddressed ks
 unfolding unaddressed
 none-addressed [] h = tt
-none-addressed (k ∷ ks) h = let t = both _ _ h in (fails _ (t .0), none-addressed ks (t .1))
+none-addressed (k ∷ ks) h = let t = and-true _ _ h in (not-true _ (t .0), none-addressed ks (t .1))
 
 -- ---- The operands ks of byte b, the first of size s
 
@@ -88,8 +81,8 @@ pub record OfByte (s : Size) (b : ℕ) (ks : List Rule) : Type 0 where
 of-byte : (s : Size) (b : ℕ) (ks : List Rule) → (b ≡ 0x21 → ⊥) → ofByte s b ks ≡ true → OfByte s b ks
 unfolding ofByte
 of-byte s b ks other h =
-    let t = both (sameSize s (sizeAt (b % 4))) (allOf s ks && unaddressed ks) (rw (ne-eqb b 0x21 other) at h) in
-    let u = both (allOf s ks) (unaddressed ks) (t .1) in
+    let t = and-true (sameSize s (sizeAt (b % 4))) (allOf s ks && unaddressed ks) (rw (ne-eqb b 0x21 other) at h) in
+    let u = and-true (allOf s ks) (unaddressed ks) (t .1) in
     record { own = same-size s _ (t .0); all = all-of s ks (u .0); plain = none-addressed ks (u .1) }
 
 pub narrow : (b : ℕ) → b < 256 → (b ≡ 0x21 → ⊥) → (W ≡ sizeOf (knownRules (known b)) → ⊥)

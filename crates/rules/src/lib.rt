@@ -223,8 +223,8 @@ pub fn count_in(rules: u32) -> u32
     rules / 0x1000
 }
 
-// The size in the lowest digit: the next operand's. An arm for each number, of which the compiler makes
-// a table.
+// The size in the lowest digit: the next operand's. An arm for each number, of which the compiler
+// makes a table.
 pub fn size_in(rules: u32) -> Size
     ensures { λ r. ⌜ r ≡ sizeIn rules ⌝ }
 {

@@ -70,9 +70,9 @@ readable s map m x w f = go (userMode s)
 
 -- ---- The bytes
 
--- a value has some
-pub some-bytes : (size : Size) → 0 < lengthOf size
-some-bytes size = omega (arith, length-bounds size)
+-- a value of a size has some
+pub has-bytes : (size : Size) → 0 < lengthOf size
+has-bytes size = omega (arith, length-bounds size)
 
 module _ {n : ℕ} (some : 0 < n) where
   -- they adjoin each other, for any reason that the first is found for

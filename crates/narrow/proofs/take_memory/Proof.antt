@@ -9,7 +9,7 @@ use Rattle.machine.specs.Alarms.{got}
 use Rattle.machine.specs.Map.{readBytes, viewBy}
 use Rattle.words.proofs.Values.{length-bounds}
 use Rattle.sure.specs.Answers.{Placed}
-use Rattle.sure.proofs.Places.{placed, some-bytes, placed-inside, placed-read}
+use Rattle.sure.proofs.Places.{placed, has-bytes, placed-inside, placed-read}
 use Rattle.sure.proofs.Taking.{written-access, takes-written, takes-value}
 use Rattle.narrow.proofs.take_memory.Statement.{statement}
 use Rattle.narrow.proofs.take_memory.Tie as tie
@@ -32,7 +32,7 @@ value-at-requires : tie.Need-value-at-requires
 value-at-requires c κs =
     let p = c .before .before in
     let start = p .before .before .before .before .before .before in
-    placed-inside (some-bytes (start .args .size)) (found p) (start .pre .0)
+    placed-inside (has-bytes (start .args .size)) (found p) (start .pre .0)
 
 -- and read
 read : (c : tie.After-value-at) → let s = c .before .before .before .before .before .before .before .before .before in
@@ -41,7 +41,7 @@ read : (c : tie.After-value-at) → let s = c .before .before .before .before .b
 read c =
     let p = c .before .before .before in
     let start = p .before .before .before .before .before .before in
-    rw (c .value-at .ensures) (placed-read (some-bytes (start .args .size)) (found p) (start .pre .0))
+    rw (c .value-at .ensures) (placed-read (has-bytes (start .args .size)) (found p) (start .pre .0))
 
 returns : tie.Need-returns
 returns c =

@@ -8,7 +8,7 @@ use Rattle.machine.specs.Words.{lengthOf}
 use Rattle.machine.specs.Map.{located, commit}
 use Rattle.machine.specs.Commands.{stored}
 use Rattle.sure.specs.Answers.{Placed}
-use Rattle.sure.proofs.Places.{some-bytes, placed-inside}
+use Rattle.sure.proofs.Places.{has-bytes, placed-inside}
 use Rattle.quick.proofs.Written.{written}
 use Rattle.quick.proofs.put.Statement.{statement}
 use Rattle.quick.proofs.put.Tie as tie
@@ -30,7 +30,7 @@ value-to-requires : tie.Need-value-to-requires
 value-to-requires c κs =
     let met = c .before .before .before in
     let start = met .before .before .before .before in
-    placed-inside (some-bytes (start .args .size)) (found met) (start .pre .0)
+    placed-inside (has-bytes (start .args .size)) (found met) (start .pre .0)
 
 returns : tie.Need-returns
 unfolding stored located commit
@@ -52,7 +52,7 @@ returns-3 c =
     let start = met .before .before .before .before in
     let a = start .args in
     rw (met .goes2 .given .1, met .before .before .with-flags .ensures)
-    (written (some-bytes (a .size)) (found met) (start .pre .0)
+    (written (has-bytes (a .size)) (found met) (start .pre .0)
     (stored (lengthOf (a .size)) (a .x) (Memory (met .goes2 .given .0 .0)) (a .regs .now)) (a .x .value) refl
     (c .before .before .value-to .ensures))
 

@@ -1,8 +1,8 @@
 -- `operand` is right: the fields at R15, R15 moved past them, the form, and what the role takes.
-use mathlib.Core.Path.{refl, sym}
-use lib.Seq.{set-getD}
+use mathlib.Core.Path.{refl}
 use native.Mathlib.Omega.{arith}
 use borrow.Author.Needs.{needs}
+use Rattle.sure.proofs.Remaining.{nothing-changed}
 use Rattle.sure.proofs.Taking.{gives}
 use Rattle.sure.proofs.operand.Statement.{statement}
 use Rattle.sure.proofs.operand.Tie as tie
@@ -18,7 +18,7 @@ take-requires c κs =
     (c .before .before .before .before .before .before .before .before .before .pre .0, c .locate .ensures .1)
 
 returns : tie.Need-returns
-returns c = (tt, (tt, record { r15 = _; same = sym (set-getD _ 15 0) }))
+returns c = (tt, (tt, nothing-changed _))
 
 returns-2 : tie.Need-returns-2
 returns-2 c =
