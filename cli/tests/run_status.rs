@@ -132,7 +132,7 @@ fn help_without_arguments() {
     assert!(status == 0 && overview.contains("desk run FILE"));
     assert_eq!(said(&["run", "--help"]), said(&["help", "run"]));
     assert_eq!(said(&["--help"]).0, overview);
-    assert_eq!(said(&["--version"]), ("desk 3.2.1, over libmidesk 3.2.1\n".to_string(), 0));
+    assert_eq!(said(&["--version"]), ("desk 3.2.2, over libmidesk 3.2.2\n".to_string(), 0));
     assert!(said(&["help", "stops"]).0.contains("17 to 31"));
     let lines = |topic: &str| said(&["help", topic]).0.split_whitespace().collect::<Vec<_>>().join(" ");
     assert!(lines("stops").contains("2 cause: alarm 21") && lines("stops").contains("21 alarm: a byte of a command"));

@@ -1,2 +1,3 @@
 mod Modes
 pub mod Laws
+pub mod Written

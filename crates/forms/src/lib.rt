@@ -24,14 +24,14 @@ pub enum Location {
 }
 
 // A word as an address.
-fn address(a: u32) -> VirtualAddress
+pub fn address(a: u32) -> VirtualAddress
     ensures { λ r. ⌜ r ≡ virtual a ⌝ }
 {
     VirtualAddress(a)
 }
 
 // A register times L.
-fn scaled(a: u32, size: Size) -> u32
+pub fn scaled(a: u32, size: Size) -> u32
     ensures { λ r. ⌜ r ≡ wrap (a * lengthOf size) ⌝ }
 {
     match size {
@@ -54,7 +54,7 @@ fn behind(mem: &[u8], status: u32, map: Map, a: VirtualAddress, more: u32) -> Lo
 }
 
 // Forms 7 and 8 exclude x = 15 and use neither y nor z.
-fn can_step(x: u32, y: u32, z: u32) -> bool
+pub fn can_step(x: u32, y: u32, z: u32) -> bool
     ensures { λ r. ⌜ r ≡ (not (eqb x 15) && eqb y 0 && eqb z 0) ⌝ }
 {
     (x != 15) & (y == 0) & (z == 0)

@@ -131,10 +131,10 @@ loadBothLeft r = record { answer = jointAnswerNumber (r .answer); memory = r .me
 unfoldable pub loadBothCall : Memory → List ℕ → List ℕ → List ℕ → LoadBothLeft
 loadBothCall m first second s = loadBothLeft (jointOf m first second s)
 
--- The version, 3.2.1, as one number
+-- The version, 3.2.2, as one number
 
 abbrev pub versionOf : ℕ → ℕ → ℕ → ℕ
 versionOf major minor patch = major * 65536 + minor * 256 + patch
 
 unfoldable pub version : ℕ
-version = versionOf 3 2 1
+version = versionOf 3 2 2

@@ -206,5 +206,5 @@ pub extern "C" fn midesk_load_both(
 pub extern "C" fn midesk_version() -> u32
     ensures { λ r. ⌜ r ≡ version ⌝ }
 {
-    0x03_02_01
+    0x03_02_02
 }

@@ -36,6 +36,11 @@ placed {s} {map} {m} {n} {x} {w} {a} e h =
     let told : InOnePage x n × (viewBy s map m x w ≡ got (foundAt m a)) = rw e at h in
     record { hit = told .1; near = told .0 }
 
+-- where bytes were found, so are the first of them
+pub placed-fewer : {s : ℕ} {map : Map} {m : Memory} {n k : ℕ} {x : VirtualAddress} {w : Access} {a : RealAddress}
+    → k ≤ n → Placed s map m n x w a → Placed s map m k x w a
+placed-fewer h f = record { hit = f .hit; near = omega (arith, h, f .near) }
+
 -- ---- An address that is found has 32 bits: the map and the memory are small
 
 test-held : (b : Bool) (f g : Found) (k : Alarm) (y : ℕ) → pick b (got f) (alarm k y) ≡ got g → b ≡ true

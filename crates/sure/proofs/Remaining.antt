@@ -1,5 +1,5 @@
 -- Operands that are surely taken, one after another: after each, the operands that are left give
--- what all of them give, and R15 alone has changed.
+-- what all of them give.
 use Prim.Native.Nat.{ℕ, suc, _+_, _-_, _/_, _<_, _≤_}
 use mathlib.Core.Path.{_≡_, refl, sym, subst, _∙_}
 use mathlib.Core.Bool.{false}
@@ -85,14 +85,13 @@ pub one-more : {p q r : Registers} → OnlyR15 p q → OnlyR15 q r → OnlyR15 p
 one-more {p} f g = record { r15 = g .r15; same = g .same ∙ rw (f .same) (set-set p 15 (f .r15) (g .r15)) }
 
 -- before operand `place` of so many, all of one size, from registers r₀ on: those that are left give
--- what all of them give, where the last result goes may be written, and R15 alone has changed
+-- what all of them give, and where the last result goes may be written
 pub record Midway (size : Size) (s : ℕ) (map : Map) (m : Memory) (rules : ℕ) (r₀ r : Registers)
     (place count rest x y : ℕ) (g : Goes) : Type 0 where
   pub left : Left (viewBy s map m) place count rest (record { first = x; second = y; target = targetOf g; registers = r })
       (operandsOf (viewBy s map m) (rulesIn rules) r₀)
   pub sizes : Rest (AllOf size) place count rest
   pub reaches : Reaches (lengthOf size) s map m g
-  pub only : OnlyR15 r₀ r
 
 pub none-taken : {size : Size} {s : ℕ} {map : Map} {m : Memory} {rules count : ℕ} {r : Registers}
     → count ≡ countIn rules → AllOf size (rulesIn rules) → Midway size s map m rules r r 1 count rules 0 0 goes.Nowhere
@@ -100,24 +99,22 @@ none-taken {size} {rules = rules} {count = count} {r = r} e all = record {
   left = all-left _ rules count r e;
   sizes = rest-all (AllOf size) rules count e all;
   reaches = tt;
-  only = nothing-changed r;
 }
 
 module _ {size : Size} {s : ℕ} {map : Map} {m : Memory} {rules : ℕ} {r₀ r : Registers}
     {place count rest x y : ℕ} {g : Goes} (w : Midway size s map m rules r₀ r place count rest x y g) where
   pub one-taken : place ≤ count → (k : Role) → k ≡ roleIn rest → (q : Registers) (n : ℕ) (h : Goes)
-      → Gives (viewBy s map m) (lengthOf size) k r q n (targetOf h) → Reaches (lengthOf size) s map m h → OnlyR15 r q
+      → Gives (viewBy s map m) (lengthOf size) k r q n (targetOf h) → Reaches (lengthOf size) s map m h
       → Midway size s map m rules r₀ q (place + 1) count (rest / 16)
       (pick (eqb place 1) n x) (pick (eqb place 2) n y) h
   unfolding withTaken
-  one-taken more k role q n h f reached only = record {
+  one-taken more k role q n h f reached = record {
     left =
         next-left _ place count rest _ _ (w .left) more size (next-size place count rest more size (w .sizes)) k role
         (asLocation (f .location)) q (as-location (f .location) q ∙ sym (f .found place)) (takes.Got n (targetOf h))
         (rw (as-location (f .location) q) (sym (f .same place))) n (targetOf h) refl;
     sizes = next-sizes place count rest more size (w .sizes);
     reaches = reached;
-    only = one-more (w .only) only;
   }
 
   pub all-taken : count < place

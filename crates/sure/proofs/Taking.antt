@@ -21,7 +21,7 @@ use Rattle.sure.specs.declared.Spot.the-variants as spot
 use Rattle.sure.specs.declared.Goes.the-variants as goes
 use Rattle.sure.specs.declared.Taken.{Taken}
 use Rattle.sure.specs.declared.Taken.the-variants as takes
-use Rattle.sure.specs.Answers.{SpotOf, accessOf, TakenFrom, TakenIn, TakenOf, OperandOf}
+use Rattle.sure.specs.Answers.{SpotOf, SpotFrom, accessOf, TakenFrom, TakenIn, TakenOf, OperandOf}
 
 -- ---- In memory
 
@@ -76,25 +76,37 @@ number-value v L z fits = (fits, record { same = λ place r. refl })
 
 -- ---- The operand at R15
 
-pub gives : (v : View) (L : ℕ) (k : Role) (r : Registers) (f : Fields) → got f ≡ fieldsAt v (reg r 15)
-    → (s : Spot) → SpotOf (past 6 r) f s → (t : Taken) → TakenOf v L k s t → OperandOf v L k r (past 6 r) t
-unfolding operandAt
-gives v L k r f h (spot.Number z) p (takes.Got n g) q = record {
-  location = immediate z;
-  found = λ place. rw (← h) (p .same v place L (q .0));
-  same = λ place. q .1 .same place (past 6 r);
-}
-gives v L k r f h (spot.Register x y) p (takes.Got n g) q = record {
-  location = register x;
-  found = λ place. rw (← h) (p .0 .same v place L);
-  same = λ place. q .same place (past 6 r) (p .1);
-}
-gives v L k r f h (spot.Memory a) p (takes.Got n g) q = record {
-  location = memory a;
-  found = λ place. rw (← h) (p .same v place L);
-  same = λ place. q .same place (past 6 r);
-}
-gives v L k r f h spot.Unsure p t q = rw q tt
-gives v L k r f h (spot.Number z) p takes.Unsure q = tt
-gives v L k r f h (spot.Register x y) p takes.Unsure q = tt
-gives v L k r f h (spot.Memory a) p takes.Unsure q = tt
+-- a form that steps no register
+pub unstepped : (v : View) (L : ℕ) (k : Fields) (r : Registers) (s : Spot) → SpotOf r k s → SpotFrom v L k r r s
+unstepped v L k r (spot.Number z) p = λ fits. record { same = λ place. p .same v place L fits }
+unstepped v L k r (spot.Register x n) p = (record { same = λ place. p .0 .same v place L }, p .1)
+unstepped v L k r (spot.Memory a) p = record { same = λ place. p .same v place L }
+unstepped v L k r spot.Unsure p = tt
+
+module _ (v : View) (L : ℕ) (k : Role) (r : Registers) (f : Fields) (h : got f ≡ fieldsAt v (reg r 15)) where
+  -- from registers r on to registers q
+  pub gives-from : (q : Registers) (s : Spot) → SpotFrom v L f (past 6 r) q s → (t : Taken) → TakenOf v L k s t
+      → OperandOf v L k r q t
+  unfolding operandAt
+  gives-from q (spot.Number z) p (takes.Got n g) t = record {
+    location = immediate z;
+    found = λ place. rw (← h) (p (t .0) .same place);
+    same = λ place. t .1 .same place q;
+  }
+  gives-from q (spot.Register x y) p (takes.Got n g) t = record {
+    location = register x;
+    found = λ place. rw (← h) (p .0 .same place);
+    same = λ place. t .same place q (p .1);
+  }
+  gives-from q (spot.Memory a) p (takes.Got n g) t = record {
+    location = memory a;
+    found = λ place. rw (← h) (p .same place);
+    same = λ place. t .same place q;
+  }
+  gives-from q spot.Unsure p t e = rw e tt
+  gives-from q (spot.Number z) p takes.Unsure t = tt
+  gives-from q (spot.Register x y) p takes.Unsure t = tt
+  gives-from q (spot.Memory a) p takes.Unsure t = tt
+
+  pub gives : (s : Spot) → SpotOf (past 6 r) f s → (t : Taken) → TakenOf v L k s t → OperandOf v L k r (past 6 r) t
+  gives s p = gives-from (past 6 r) s (unstepped v L f (past 6 r) s p)

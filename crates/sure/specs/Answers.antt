@@ -54,6 +54,17 @@ SpotOf r k (spot.Register x n) = Names r k (register x) × (n ≡ reg r x)
 SpotOf r k (spot.Memory a) = Names r k (memory a)
 SpotOf r k spot.Unsure = Unit {0}
 
+-- the same from registers r on to registers q, which a step may have changed, for an operand of L bytes
+
+pub record Leads (v : View) (L : ℕ) (k : Fields) (r q : Registers) (l : Location) : Type 0 where
+  pub same : (place : ℕ) → formed v place L r k ≡ at l q
+
+abbrev pub SpotFrom : View → ℕ → Fields → Registers → Registers → Spot → Type 0
+SpotFrom v L k r q (spot.Number z) = z < span L → Leads v L k r q (immediate z)
+SpotFrom v L k r q (spot.Register x n) = Leads v L k r q (register x) × (n ≡ reg q x)
+SpotFrom v L k r q (spot.Memory a) = Leads v L k r q (memory a)
+SpotFrom v L k r q spot.Unsure = Unit {0}
+
 -- a register is one of the sixteen
 abbrev pub SmallSpot : Spot → Type 0
 SmallSpot (spot.Number z) = Unit {0}

@@ -1,6 +1,7 @@
 // Operands that surely give no alarm: words in the forms 0 to 3 whose bytes lie in the command's
 // page, each in a register, immediate, or in one page that may be used so. All else is unsure, of
-// which nothing is said. Only R15 changes. (`narrow` has the same for bytes and halfwords.)
+// which nothing is said. Only R15 changes. (`narrow` has the same for bytes and halfwords, `allforms`
+// words in the other forms too.)
 ghost use mathlib.Core.Path.{_≡_};
 ghost use Prim.Native.Nat.{_<_};
 ghost use Rattle.fetches.specs.Answers.{FetchedFrom};

@@ -49,7 +49,7 @@ pub const STATE_BYTES: usize = 90;
 
 /// The version of this crate as one number, 65536 × major + 256 × minor + patch, as the C header has it in
 /// `MIDESK_VERSION`.
-pub const VERSION: u32 = 0x03_02_01;
+pub const VERSION: u32 = 0x03_02_02;
 
 /// The version of the archive `libmidesk.a` that is linked, as one number: [`VERSION`] where crate and archive belong
 /// together.

@@ -2,6 +2,7 @@
 -- makes of what the byte asks for; a floating command ends as `floating::command` has it.
 use mathlib.Core.Path.{sym, _∙_}
 use borrow.Author.Needs.{needs}
+use Rattle.rules.proofs.OneSize.{words}
 use Rattle.commands.proofs.Laws.{exec-unfetched, exec-floating, exec-forbidden, exec-alarm, exec-action}
 use Rattle.commands.proofs.command.Statement.{statement}
 use Rattle.commands.proofs.command.Tie as tie
@@ -42,18 +43,19 @@ rules-of-requires c κs =
       rw (c .before .before .before .before .before .c2 .given .1) at (fetched .fetch .ensures .1 .0),
     )
 
-take-all-requires : tie.Need-take-all-requires
-take-all-requires c κs =
-    let fetched = c .before .before .before .before .before .before .before .before .before .before in (
-      fetched .before .before .before .before .pre .0,
-      rw (c .before .before .before .before .before .before .before .before .c2 .given .1) at (fetched .fetch .ensures .1 .1),
-      c .before .before .rules-of .ensures .1 .0,
+take-requires : tie.Need-take-requires
+take-requires c κs =
+    let fetched = c .before .before .before .before .before .before .before .before .before .before in
+    let byte = c .before .before .before .before .before .before .before .before .c2 .given .1 in
+    let row = c .before .before .rules-of .ensures in (
+      (fetched .before .before .before .before .pre .0, rw byte at (fetched .fetch .ensures .1 .1), row .1 .0),
+      record { words = λ e. rw (row .0) (words _ (rw byte at (fetched .fetch .ensures .1 .0)) (e ∙ row .1 .1)) },
     )
 
 finish-requires : tie.Need-finish-requires
 finish-requires c κs =
     let taken = c .before .before .before .before .before .before in
-    (c .before .before .before .before .before .before .before .before .before .before .before .before .before .before .before .before .before .before .before .before .before .pre .0, rw (c .before .before .before .before .o2 .given .1) at (taken .take-all .ensures .1))
+    (c .before .before .before .before .before .before .before .before .before .before .before .before .before .before .before .before .before .before .before .before .before .pre .0, rw (c .before .before .before .before .o2 .given .1) at (taken .take .ensures .1))
 
 returns-3 : tie.Need-returns-3
 returns-3 c =
@@ -75,7 +77,7 @@ returns-4 c =
       taken .before .before .before .rules-of .ensures .0,
       mode .before .before .plus .ensures,
     )
-    at (taken .take-all .ensures .0))
+    at (taken .take .ensures .0))
 
 returns-5 : tie.Need-returns-5
 returns-5 c =
@@ -92,7 +94,7 @@ returns-5 c =
       c .before .before .before .before .before .before .before .o2 .given .1,
       taken .before .before .before .rules-of .ensures .0,
       mode .before .before .plus .ensures,
-    ) at (taken .take-all .ensures .0)))
+    ) at (taken .take .ensures .0)))
 
 pub command-spec : {M : Type 1} → statement M
 command-spec =
@@ -100,5 +102,5 @@ command-spec =
     (tie.spec
     (λ c. search needs) (λ c κs. search needs) (λ c. search needs) (λ c. search needs) (λ c κs. search needs)
     (λ c. search needs) command-requires (λ c. search needs) returns (λ c κs. search needs) (λ c. search needs)
-    returns-2 rules-of-requires take-all-requires (λ c. search needs) (λ c. search needs) (λ c κs. search needs)
+    returns-2 rules-of-requires take-requires (λ c. search needs) (λ c. search needs) (λ c κs. search needs)
     finish-requires (λ c. search needs) returns-3 (λ c. search needs) returns-4 (λ c. search needs) returns-5)

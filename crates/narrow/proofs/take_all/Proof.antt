@@ -1,11 +1,12 @@
--- `take_all` is right: after each operand those that are left give what all of them give, and none of
--- them is an address.
+-- `take_all` is right: after each operand those that are left give what all of them give, none of them
+-- is an address, and R15 alone has changed.
 use Prim.Native.Nat.{_+_, _-_}
 use native.Mathlib.Omega.{arith}
 use borrow.Author.Needs.{needs}
 use Rattle.rules.specs.Rules.{Unaddressed}
 use Rattle.sure.proofs.Remaining.{Rest, rest-all, next-plain, next-plains}
-use Rattle.sure.proofs.Remaining.{Midway, none-taken, one-taken, all-taken, one-more}
+use Rattle.sure.specs.Answers.{OnlyR15}
+use Rattle.sure.proofs.Remaining.{Midway, none-taken, one-taken, all-taken, nothing-changed, one-more}
 use Rattle.narrow.proofs.take_all.Statement.{statement}
 use Rattle.narrow.proofs.take_all.Tie as tie
 
@@ -13,6 +14,7 @@ abbrev Inv-loop : tie.InvT-loop
 Inv-loop mem regs₀ status map start found size rules first₀ second₀ goes₀ place₀ count rest₀ regs first second goes
     place rest =
     Midway size status map mem rules regs₀ regs place count rest first second goes × Rest Unaddressed place count rest
+    × OnlyR15 regs₀ regs
 
 abbrev μ-loop : tie.MeasureT-loop
 μ-loop mem regs₀ status map start found size rules first₀ second₀ goes₀ place₀ count rest₀ regs first second goes
@@ -23,7 +25,7 @@ loop-holds : tie.Need-loop-holds Inv-loop μ-loop
 loop-holds c =
     let all = c .before .before .pre .1 in
     let count = c .count-in .ensures in
-    (none-taken count (all .0), rest-all Unaddressed _ _ count (all .1))
+    (none-taken count (all .0), rest-all Unaddressed _ _ count (all .1), nothing-changed _)
 
 operand-requires : tie.Need-operand-requires Inv-loop μ-loop
 operand-requires c κs =
@@ -36,7 +38,7 @@ returns : tie.Need-returns Inv-loop μ-loop
 returns c =
     let o = c .before .before in
     let l = o .before .before .before .before .loop in
-    (tt, (tt, one-more (l .inv .0 .only) (o .operand .ensures .1 .1)))
+    (tt, (tt, one-more (l .inv .2) (o .operand .ensures .1 .1)))
 
 loop-again : tie.Need-loop-again Inv-loop μ-loop
 loop-again c =
@@ -47,14 +49,15 @@ loop-again c =
     let got = c .before .before .before .t .given .1 in (
       rw (c .before .chosen .ensures, c .chosen2 .ensures)
           (one-taken (l .inv .0) more _ (r .role-in .ensures) _ _ _
-          (rw got at (o .operand .ensures .0)) (rw got at (o .operand .ensures .1 .0)) (o .operand .ensures .1 .1)),
+          (rw got at (o .operand .ensures .0)) (rw got at (o .operand .ensures .1 .0))),
       next-plains _ _ _ more (l .inv .1),
+      one-more (l .inv .2) (o .operand .ensures .1 .1),
     )
 
 returns-2 : tie.Need-returns-2 Inv-loop μ-loop
 returns-2 c =
-    let w = c .before .loop .inv .0 in
-    (all-taken w (omega arith), (w .reaches, w .only))
+    let w = c .before .loop .inv in
+    (all-taken (w .0) (omega arith), (w .0 .reaches, w .2))
 
 pub take-all-spec : {M : Type 1} → statement M
 take-all-spec =

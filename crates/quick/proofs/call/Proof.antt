@@ -8,7 +8,7 @@ use Rattle.machine.specs.Commands.{called}
 use Rattle.results.proofs.Ends.{same-status}
 use Rattle.sure.specs.Answers.{Placed}
 use Rattle.sure.proofs.Places.{placed, placed-inside}
-use Rattle.quick.proofs.Written.{written}
+use Rattle.commands.proofs.Written.{written}
 use Rattle.quick.proofs.call.Statement.{statement}
 use Rattle.quick.proofs.call.Tie as tie
 

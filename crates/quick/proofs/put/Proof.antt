@@ -9,7 +9,7 @@ use Rattle.machine.specs.Map.{located, commit}
 use Rattle.machine.specs.Commands.{stored}
 use Rattle.sure.specs.Answers.{Placed}
 use Rattle.sure.proofs.Places.{has-bytes, placed-inside}
-use Rattle.quick.proofs.Written.{written}
+use Rattle.commands.proofs.Written.{written}
 use Rattle.quick.proofs.put.Statement.{statement}
 use Rattle.quick.proofs.put.Tie as tie
 

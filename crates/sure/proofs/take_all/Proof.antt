@@ -1,16 +1,18 @@
--- `take_all` is right: after each operand those that are left give what all of them give.
+-- `take_all` is right: after each operand those that are left give what all of them give, and R15
+-- alone has changed.
 use Prim.Native.Nat.{_+_, _-_}
 use native.Mathlib.Omega.{arith}
 use borrow.Author.Needs.{needs}
 use Rattle.machine.specs.declared.Size.the-variants.{W}
-use Rattle.sure.proofs.Remaining.{Midway, none-taken, one-taken, all-taken, one-more}
+use Rattle.sure.specs.Answers.{OnlyR15}
+use Rattle.sure.proofs.Remaining.{Midway, none-taken, one-taken, all-taken, nothing-changed, one-more}
 use Rattle.sure.proofs.take_all.Statement.{statement}
 use Rattle.sure.proofs.take_all.Tie as tie
 
 abbrev Inv-loop : tie.InvT-loop
 Inv-loop mem regs₀ status map start found rules first₀ second₀ goes₀ place₀ count rest₀ regs first second goes place
     rest =
-    Midway W status map mem rules regs₀ regs place count rest first second goes
+    Midway W status map mem rules regs₀ regs place count rest first second goes × OnlyR15 regs₀ regs
 
 abbrev μ-loop : tie.MeasureT-loop
 μ-loop mem regs₀ status map start found rules first₀ second₀ goes₀ place₀ count rest₀ regs first second goes place
@@ -18,28 +20,30 @@ abbrev μ-loop : tie.MeasureT-loop
     count + 1 - place
 
 loop-holds : tie.Need-loop-holds Inv-loop μ-loop
-loop-holds c = none-taken (c .count-in .ensures) (c .before .before .pre .1)
+loop-holds c = (none-taken (c .count-in .ensures) (c .before .before .pre .1), nothing-changed _)
 
 returns : tie.Need-returns Inv-loop μ-loop
 returns c =
     let o = c .before .before in
     let l = o .before .before .before .before .loop in
-    (tt, (tt, one-more (l .inv .only) (o .operand .ensures .1 .1)))
+    (tt, (tt, one-more (l .inv .1) (o .operand .ensures .1 .1)))
 
 loop-again : tie.Need-loop-again Inv-loop μ-loop
 loop-again c =
     let o = c .before .before .before .before .before in
     let r = o .before .before in
     let l = r .before .before .loop in
-    let got = c .before .before .before .t .given .1 in
-    rw (c .before .chosen .ensures, c .chosen2 .ensures)
-    (one-taken (l .inv) (r .before .loop-test .taken) _ (r .role-in .ensures) _ _ _
-    (rw got at (o .operand .ensures .0)) (rw got at (o .operand .ensures .1 .0)) (o .operand .ensures .1 .1))
+    let got = c .before .before .before .t .given .1 in (
+      rw (c .before .chosen .ensures, c .chosen2 .ensures)
+          (one-taken (l .inv .0) (r .before .loop-test .taken) _ (r .role-in .ensures) _ _ _
+          (rw got at (o .operand .ensures .0)) (rw got at (o .operand .ensures .1 .0))),
+      one-more (l .inv .1) (o .operand .ensures .1 .1),
+    )
 
 returns-2 : tie.Need-returns-2 Inv-loop μ-loop
 returns-2 c =
     let w = c .before .loop .inv in
-    (all-taken w (omega arith), (w .reaches, w .only))
+    (all-taken (w .0) (omega arith), (w .0 .reaches, w .1))
 
 pub take-all-spec : {M : Type 1} → statement M
 take-all-spec =
