@@ -19,10 +19,18 @@ word-requires c κs =
 returns : tie.Need-returns
 returns c =
     let p = c .before .before .before .before in
-    record { same = λ r. simp (word-read (found p) (p .before .before .before .before .pre), ← c .plus .ensures, ← c .before .word .ensures) }
+    record {
+      same = λ r.
+          simp (
+            word-read (found p) (p .before .before .before .before .pre),
+            ← c .plus .ensures,
+            ← c .before .word .ensures,
+          );
+    }
 
 pub behind-spec : {M : Type 1} → statement M
 behind-spec =
     tie.close
     (tie.spec
-    (λ c κs. search needs) (λ c. search needs) (λ c. search needs) word-requires (λ c κs. search needs) returns (λ c. search needs))
+    (λ c κs. search needs) (λ c. search needs) (λ c. search needs) word-requires (λ c κs. search needs) returns
+    (λ c. search needs))

@@ -11,4 +11,7 @@ returns c =
     (rw (o .o .given .1) at (e .0), (rw (o .o .given .1) at (e .1), tt))
 
 pub take-all-spec : {M : Type 1} → statement M
-take-all-spec = tie.close (tie.spec (λ c κs. search needs) (λ c. search needs) (λ c. search needs) returns (λ c. search needs))
+take-all-spec =
+    tie.close
+    (tie.spec
+    (λ c κs. search needs) (λ c. search needs) (λ c. search needs) returns (λ c. search needs))

@@ -26,7 +26,8 @@ returns c =
     c .before .before .command .ensures
     ∙ rw (c .before .before .before .before .before .before .plus .ensures)
     (exec-floating (a .status) (a .map) (a .regs .now) (a .mem .now) _
-    (rw (c .before .before .before .before .before .before .before .before .c2 .given .1) at (fetched .fetch .ensures .0)) (c .before .before .before .before .before .if1 .taken))
+    (rw (c .before .before .before .before .before .before .before .before .c2 .given .1) at (fetched .fetch .ensures .0))
+    (c .before .before .before .before .before .if1 .taken))
 
 returns-2 : tie.Need-returns-2
 returns-2 c =
@@ -55,7 +56,11 @@ take-requires c κs =
 finish-requires : tie.Need-finish-requires
 finish-requires c κs =
     let taken = c .before .before .before .before .before .before in
-    (c .before .before .before .before .before .before .before .before .before .before .before .before .before .before .before .before .before .before .before .before .before .pre .0, rw (c .before .before .before .before .o2 .given .1) at (taken .take .ensures .1))
+    let mode = taken .before .before .before .before .before in
+    let fetched = mode .before .before .before .before .before .before in (
+      fetched .before .before .before .before .pre .0,
+      rw (c .before .before .before .before .o2 .given .1) at (taken .take .ensures .1),
+    )
 
 returns-3 : tie.Need-returns-3
 returns-3 c =

@@ -48,4 +48,5 @@ pub put-spec : {M : Type 1} → statement M
 put-spec =
     tie.close
     (tie.spec
-    (λ c. search needs) (λ c. search needs) value-to-requires (λ c κs. search needs) (λ c. search needs) put-requires (λ c. search needs) returns (λ c. search needs) returns-2)
+    (λ c. search needs) (λ c. search needs) value-to-requires (λ c κs. search needs) (λ c. search needs)
+    put-requires (λ c. search needs) returns (λ c. search needs) returns-2)

@@ -36,4 +36,5 @@ pub take-spec : {M : Type 1} → statement M
 take-spec =
     tie.close
     (tie.spec
-    (λ c κs. search needs) (λ c. search needs) (λ c κs. search needs) returns (λ c. search needs) take-all-requires (λ c. search needs) (λ c. search needs) returns-2 returns-3)
+    (λ c κs. search needs) (λ c. search needs) (λ c κs. search needs) returns (λ c. search needs)
+    take-all-requires (λ c. search needs) (λ c. search needs) returns-2 returns-3)
