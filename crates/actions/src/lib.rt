@@ -1,4 +1,5 @@
 // The match over the command byte: what a command does with its operands' numbers.
+#![tactic(auto)]
 ghost use Rattle.std.specs.Prelude.{◌≡◌};
 ghost use Rattle.actions.specs.Actions.{action_of, result_action};
 ghost use Rattle.machine.specs.Code.{DIV};
@@ -8,7 +9,7 @@ ghost use Rattle.machine.specs.Words.{size_at};
 use machine::{Alarm, Result, Size};
 
 // What a command does with its operands' numbers.
-#[derive(Drop)]
+#[derive(Clone, Copy)]
 pub enum Action {
     // A result for the target.
     Give(Size, Result),

@@ -1,4 +1,6 @@
 // The system block and the control block: what a kernel entry reads and saves.
+#![tactic(auto)]
+
 ghost use Rattle.std.specs.Prelude.{◌≡◌, ◌+◌, ◌≤◌, drop, length, take};
 ghost use Rattle.machine.specs.Map.{commit, real_writes_from};
 ghost use Rattle.machine.specs.State.{entry_r15, entry_status, saved_byte_count, saved_bytes, system_block_bytes};

@@ -1,4 +1,5 @@
 // Breakpoints: a lent list of them, each an R15 value and whether it is armed.
+#![tactic(auto)]
 ghost use Rattle.std.specs.Prelude.{◌≡◌, min, take};
 ghost use Rattle.breakpoints.specs.Breakpoints.{most, first_armed};
 ghost use Rattle.breakpoints.specs.RunTo.{run_to_answer_number, run_to_refusal_number};
@@ -13,21 +14,21 @@ pub const MOST: usize = 64;
 // A run is held where R15 is this, if the breakpoint is armed. Laid out as in C, whose callers lend lists
 // of them.
 #[repr(C)]
-#[derive(Drop)]
+#[derive(Clone, Copy)]
 pub struct Breakpoint {
     pub r15: VirtualAddress,
     pub armed: bool,
 }
 
 // The place of a breakpoint in its list, from 0; or it has none.
-#[derive(Drop)]
+#[derive(Clone, Copy)]
 pub enum Found {
     At(usize),
     Nowhere,
 }
 
 // Why a run with breakpoints is refused: numbers 1 to 5 and 7 as a run's, and 20.
-#[derive(Drop)]
+#[derive(Clone, Copy)]
 pub enum RunToRefusal {
     Run(Refusal),
     Breakpoints,
@@ -35,7 +36,7 @@ pub enum RunToRefusal {
 
 // What a run with breakpoints came to: refused; ended as a run ends, after all steps or by a stop; or
 // held before a command, with the place of the breakpoint.
-#[derive(Drop)]
+#[derive(Clone, Copy)]
 pub enum RunToAnswer {
     Refused(RunToRefusal),
     Ended,
@@ -43,7 +44,7 @@ pub enum RunToAnswer {
 }
 
 // What such a run hands back: steps counts those that it made.
-#[derive(Drop)]
+#[derive(Clone, Copy)]
 pub struct RunToReply {
     pub answer: RunToAnswer,
     pub steps: u64,
@@ -100,7 +101,7 @@ pub fn first_armed(points: &[Breakpoint], r15: u32) -> Found
 }
 
 // The addresses of the armed breakpoints of a list, in its order, and how many the list has.
-#[derive(Drop)]
+#[derive(Clone, Copy)]
 pub struct Armed {
     pub addresses: [u32; MOST],
     pub count: usize,

@@ -10,7 +10,7 @@ use breakpoints::{RunToAnswer, RunToReply};
 use machine::{Answer, Desk, Reply, RunReply, StepAnswer, StepReply};
 
 // A call's difference, the model's state after it, and the position after its fields.
-#[derive(Drop)]
+#[derive(Clone, Copy)]
 pub struct Checked {
     pub what: Difference,
     pub words: Words,
@@ -19,7 +19,7 @@ pub struct Checked {
 
 // What a step came to: the refusal's number or 0; 0 for nothing special, 1 for an entry, 2 for a
 // stop; the cause or the stop's number.
-#[derive(Drop)]
+#[derive(Clone, Copy)]
 struct Event {
     refusal: u32,
     kind: u32,

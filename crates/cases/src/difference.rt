@@ -1,6 +1,6 @@
 // What the desk and the model differ in first.
 
-#[derive(Drop)]
+#[derive(Clone, Copy)]
 pub enum Difference {
     Nothing,
     Refusal,
@@ -22,7 +22,7 @@ pub enum Difference {
 }
 
 // The difference of a case, at a call counted from 1, or 0 where it belongs to no call.
-#[derive(Drop)]
+#[derive(Clone, Copy)]
 pub struct Verdict {
     pub what: Difference,
     pub call: u64,

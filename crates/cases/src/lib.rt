@@ -1,6 +1,7 @@
 // The model's stored cases, in the form that model/src/store.rs describes: their fields, memory and
 // state, and whether a reply is the one that a case expects. Nothing here calls the desk. Every
 // function is proved safe and ending, on any bytes.
+#![tactic(auto)]
 pub mod answers;
 pub mod difference;
 pub mod fields;

@@ -20,7 +20,7 @@ pub const SAVED: usize = 18;
 pub type Words = [u32; WORDS];
 
 // Words that fields gave, and the position after the fields.
-#[derive(Drop)]
+#[derive(Clone, Copy)]
 pub struct Stored {
     pub at: usize,
     pub words: Words,

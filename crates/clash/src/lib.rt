@@ -1,6 +1,7 @@
 // Whether two lists clash: whether there is an address at which both put and their last bytes differ. It
 // is found out in a scratch, of which a byte cannot hold "no byte yet, or one of 256": the bytes are
 // compared in two rounds, by their high halves and by their low halves.
+#![tactic(auto)]
 ghost use Rattle.std.specs.Prelude.{◌≡◌, not, ◌+◌, ◌≤◌, ◌<◌, length, replicate, take};
 ghost use Rattle.lists.specs.Lists.{put_bytes, puts_of};
 ghost use Rattle.load.specs.Judged.{Puttable, Sound};
@@ -14,14 +15,14 @@ use machine::RealAddress;
 // ---- Notes
 
 // The half of every byte that a round compares.
-#[derive(Drop)]
+#[derive(Clone, Copy)]
 pub enum Half {
     High,
     Low,
 }
 
 // The list whose puts are noted.
-#[derive(Drop)]
+#[derive(Clone, Copy)]
 pub enum Turn {
     First,
     Second,

@@ -1,5 +1,6 @@
 // One command: byte, mode, operands, operation, writes. The working registers are lent; where the
 // command alarms they are of no account, and the caller hands back the copy from the start.
+#![tactic(auto)]
 ghost use Rattle.std.specs.Prelude.{◌≡◌, ◌<◌};
 ghost use Rattle.commands.specs.Execution.{action_end, exec_of};
 ghost use Rattle.commands.specs.Goals.{Aims, Attained, AttainedBy, Uniform, given_as, target_at};
@@ -24,7 +25,7 @@ use sure::{Goes, Operands as Surely};
 
 // Where a result goes: to an address at which the place of a word was looked up for writing, as
 // `sure` has it; or to a target that was not looked up, as `operands` has it.
-#[derive(Drop)]
+#[derive(Clone, Copy)]
 pub enum Goal {
     Found(VirtualAddress, RealAddress),
     Named(Target),
@@ -32,7 +33,7 @@ pub enum Goal {
 
 // What all operands give: the first's and the second's number, and where the last one's result
 // goes; or an alarm's argument and the alarm.
-#[derive(Drop)]
+#[derive(Clone, Copy)]
 pub enum Given {
     Got(u32, u32, Goal),
     Alarm(u32, Alarm),

@@ -15,20 +15,23 @@
 // The input has the form that model/src/store.rs describes and may have any length; bytes after the
 // last case are not read. Input that does not start with a header prints only `the input holds no
 // cases`.
+#![tactic(auto)]
+
 mod play;
 mod print;
 
 ghost use Rattle.std.specs.Prelude.{◌+◌, ◌≤◌};
 
 use cases::fields::word_at;
-use libc::STDIN_FILENO;
 use play::Outcome;
+
+const STDIN_FILENO: i32 = 0;
 
 // The bytes that a case may be stored in.
 const LONGEST: usize = 262144;
 
 // What a case adds to the counts, and whether the input goes on.
-#[derive(Drop)]
+#[derive(Clone, Copy)]
 struct Count {
     equal: u64,
     differ: u64,

@@ -11,7 +11,7 @@ use listed::ROOM;
 use machine::{RealAddress, VirtualAddress};
 
 // What became of a case.
-#[derive(Drop)]
+#[derive(Clone, Copy)]
 pub enum Outcome {
     Equal,
     Differs(Verdict),
@@ -21,7 +21,7 @@ pub enum Outcome {
 }
 
 // The first difference of the calls, and the position after their fields.
-#[derive(Drop)]
+#[derive(Clone, Copy)]
 struct Played {
     verdict: Verdict,
     at: usize,

@@ -1,6 +1,7 @@
 // The lines that the program prints.
 use cases::difference::{Difference, Verdict};
-use libc::STDOUT_FILENO;
+
+const STDOUT_FILENO: i32 = 1;
 
 fn print_what(what: Difference) {
     match what {

@@ -1,5 +1,6 @@
 // Values of eight bytes through the map: a D in memory. Where its bytes lie in one page, one lookup
 // answers for all of them; else it is read word by word, and stored byte by byte.
+#![tactic(auto)]
 ghost use Rattle.std.specs.Prelude.{◌≡◌, ◌*◌, ◌+◌, ◌≤◌, length};
 ghost use Rattle.std.proofs.lemmas.List.Edits.{sets};
 ghost use Rattle.doubles.specs.Answers.{bits_as};
@@ -14,7 +15,7 @@ use reads::Got;
 use stores::Stored;
 
 // The bits of a value, or an alarm's argument and the alarm.
-#[derive(Drop)]
+#[derive(Clone, Copy)]
 pub enum Bits {
     Value(u64),
     Alarm(u32, Alarm),

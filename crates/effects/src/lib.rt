@@ -1,6 +1,7 @@
 // What a command byte does with its operands' numbers, for the commands that the quick way knows: as
 // `actions` has it, by single bytes, so that the compiler makes a table of jumps, and with each size
 // a constant.
+#![tactic(auto)]
 ghost use Rattle.std.specs.Prelude.{◌≡◌};
 ghost use Rattle.effects.specs.Effects.{EffectOf, NarrowOf};
 
@@ -8,7 +9,7 @@ use actions::Action;
 use machine::{Result, Size};
 
 // What a command on words, a jump, CALL or RET does with its operands' numbers.
-#[derive(Drop)]
+#[derive(Clone, Copy)]
 pub enum Effect {
     Does(Action),
     Unsure,
@@ -62,7 +63,7 @@ pub fn effect_of(b: u32, f: u32, x: u32, y: u32) -> Effect
 
 // What a command on bytes or halfwords does with its operands' numbers: a result of its size; new
 // flags alone.
-#[derive(Drop)]
+#[derive(Clone, Copy)]
 pub enum NarrowEffect {
     Gives(Result),
     Flags(u32),

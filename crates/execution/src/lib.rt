@@ -1,6 +1,7 @@
 // Commands one after another, as long as they end quietly and reach no watched address: each by the
 // quick way, or from its start by the general one. The sixteen registers are passed by value and
 // returned.
+#![tactic(auto)]
 ghost use Rattle.std.specs.Prelude.{◌≡◌, length, ◌%◌};
 ghost use Rattle.execution.specs.Rows.{Rowed};
 ghost use Rattle.lookup.specs.Answers.{Fits};
@@ -14,7 +15,7 @@ use results::Out;
 // are the ones from the start of the next; how many did; and of the next one, where there is one,
 // its registers and how it ended. Where it alarmed, these are the registers from its start. Where
 // there is none, `out` is Done.
-#[derive(Drop)]
+#[derive(Clone, Copy)]
 pub struct Ended {
     pub registers: [u32; 16],
     pub status: u32,

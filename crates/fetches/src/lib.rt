@@ -1,5 +1,6 @@
 // The bytes of a command: its command byte, and the six bytes of each operand. The lookup of the
 // command byte answers for the operands in its page.
+#![tactic(auto)]
 ghost use Rattle.std.specs.Prelude.{◌≡◌, ◌+◌, ◌≤◌, length};
 ghost use Rattle.fetches.specs.Answers.{ByteOrAlarm, FetchedFrom, NearOf, PairOrAlarm, PlaceOrAlarm};
 ghost use Rattle.fetches.specs.Answers.{command_byte_as, operand_bytes_as, operand_bytes_at};
@@ -12,21 +13,21 @@ use machine::{Access, Alarm, Map, RealAddress, VirtualAddress};
 use reads::Got;
 
 // A command byte and where it lies, or an alarm's argument and the alarm.
-#[derive(Drop)]
+#[derive(Clone, Copy)]
 pub enum CommandByte {
     Byte(u32, RealAddress),
     Alarm(u32, Alarm),
 }
 
 // An operand's form byte, register pair and word, or an alarm's argument and the alarm.
-#[derive(Drop)]
+#[derive(Clone, Copy)]
 pub enum OperandBytes {
     Fields(u32, u32, u32),
     Alarm(u32, Alarm),
 }
 
 // The same where they lie in the page of a byte that was fetched.
-#[derive(Drop)]
+#[derive(Clone, Copy)]
 pub enum Nearby {
     Fields(u32, u32, u32),
     Elsewhere,

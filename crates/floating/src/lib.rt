@@ -1,5 +1,6 @@
 // One floating command, once its byte is fetched: operands, operation, result. Lookups and forms are
 // those of the commands on integers.
+#![tactic(auto)]
 ghost use Rattle.std.specs.Prelude.{◌≡◌, ◌<◌, ◌≤◌, eqb};
 ghost use Rattle.doubles.specs.Answers.{bits_as};
 ghost use Rattle.fetches.specs.Answers.{FetchedFrom, PairOrAlarm, operand_bytes_as};
@@ -31,7 +32,7 @@ use results::Out;
 use stores::Stored;
 
 // What one operand gives: its bits and where a result goes; or an alarm's argument and the alarm.
-#[derive(Drop)]
+#[derive(Clone, Copy)]
 pub enum Taken {
     Got(u64, Target),
     Alarm(u32, Alarm),
@@ -39,14 +40,14 @@ pub enum Taken {
 
 // What all operands give: the first's and the second's bits, and where the last one's result goes;
 // or an alarm's argument and the alarm.
-#[derive(Drop)]
+#[derive(Clone, Copy)]
 pub enum Operands {
     Ready(u64, u64, Target),
     Alarm(u32, Alarm),
 }
 
 // What a floating command does with its operands' bits.
-#[derive(Drop)]
+#[derive(Clone, Copy)]
 pub enum Action {
     // A result for the target.
     Give(FloatResult),

@@ -1,7 +1,7 @@
 -- The flags of a number and of the one with the other sign.
 use Prim.Native.Nat.{ℕ, ◌+◌, ◌*◌, ◌<◌}
 use mathlib.Core.Path.{◌≡◌, refl, sym, ap, ◌∙◌}
-use mathlib.Core.Bool.{Bool, true, false, not, ◌&&◌, ◌||◌, and_false}
+use mathlib.Core.Bool.{Bool, true, false, not, ◌&&◌, ◌||◌, and-false}
 use native.Mathlib.Nat.{mul-pos, zero-mul}
 use native.Mathlib.Omega.{arith}
 use native.Mathlib.Decide.{dec_lt}
@@ -68,7 +68,7 @@ not_both : (s : Bool) (a b : ℕ) → b ≡ 0 → (below s a false b && level s 
 not_both s a b q = go (dec_lt 0 a)
   where
     go : Dec (0 < a) → (below s a false b && level s a false b) ≡ false
-    go (yes p) = let z = some_sign s a b p q in rw (z.0, z.1) (and_false s)
+    go (yes p) = let z = some_sign s a b p q in rw (z.0, z.1) (and-false s)
     go (no p) = let z = no_sign s a b (omega arith) q in rw z.0
 
 pub n_or_z : (x : Float) → (flag_n (number_flags x) && flag_z (number_flags x)) ≡ false

@@ -2,7 +2,7 @@
 use Prim.Native.Nat.{ℕ, ◌+◌, ◌*◌, ◌≤◌, ◌<◌}
 use mathlib.Core.Path.{◌≡◌, refl, sym, ap, ◌∙◌}
 use mathlib.Core.Logic.{inl, inr}
-use mathlib.Core.Bool.{Bool, true, false, ◌||◌, true≢false, and_false}
+use mathlib.Core.Bool.{Bool, true, false, ◌||◌, true≢false, and-false}
 use native.Mathlib.Nat.{mul-pos, zero-mul, add-mul, mul_assoc, mul_comm, mul_left_comm, mul-le-mul_right}
 use native.Mathlib.Nat.{mul-lt-mul_of_pos_right, lt_of_mul-lt-mul_right, le_of_mul-le-mul_right, eq_of_mul-eq-mul_right}
 use native.Mathlib.Omega.{arith}
@@ -64,7 +64,7 @@ one_of_signed s t a b = go s t (dec_lt a b) (dec_lt b a)
         apart (yes h) = inr (inr (refl, differ (dec_lt 0 a), lt-ltb 0 (b + a) h))
           where
             differ : Dec (0 < a) → level false a true b ≡ false
-            differ (yes u) = rw (ne_eqb a 0 (λ z. omega arith)) (and_false (eqb a b))
+            differ (yes u) = rw (ne_eqb a 0 (λ z. omega arith)) (and-false (eqb a b))
             differ (no u) = rw (ne_eqb a b (λ z. omega arith))
         apart (no h) = inr (inl (refl, rw (eq-eqb a b (omega arith), eq-eqb a 0 (omega arith)), le-ltb 0 (b + a) (omega arith)))
     go true false p q = apart (dec_lt 0 (a + b))
@@ -73,7 +73,7 @@ one_of_signed s t a b = go s t (dec_lt a b) (dec_lt b a)
         apart (yes h) = inl (lt-ltb 0 (a + b) h, differ (dec_lt 0 a), refl)
           where
             differ : Dec (0 < a) → level true a false b ≡ false
-            differ (yes u) = rw (ne_eqb a 0 (λ z. omega arith)) (and_false (eqb a b))
+            differ (yes u) = rw (ne_eqb a 0 (λ z. omega arith)) (and-false (eqb a b))
             differ (no u) = rw (ne_eqb a b (λ z. omega arith))
         apart (no h) = inr (inl (le-ltb 0 (a + b) (omega arith), rw (eq-eqb a b (omega arith), eq-eqb a 0 (omega arith)), refl))
 

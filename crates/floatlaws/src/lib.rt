@@ -1,1 +1,2 @@
 // No code: what follows for floating numbers, and worked steps.
+#![tactic(auto)]

@@ -39,8 +39,8 @@ differs_if_nan (inf false) = refl
 differs_if_nan (fin true m e) = ap (λ (b : Bool). not (b && true)) (same_as_itself (m * up e * down e))
 differs_if_nan (fin false m e) = ap (λ (b : Bool). not (b && true)) (same_as_itself (m * up e * down e))
 
-pub nan_bits : (f : Format) (x : Float) → ne x x ≡ true → to_bits f nan ≡ to_bits f x
-nan_bits f x h = sym (ap (to_bits f) (differs_from_itself x (subst T (sym h) tt)))
+pub same_nan_bits : (f : Format) (x : Float) → ne x x ≡ true → to_bits f nan ≡ to_bits f x
+same_nan_bits f x h = sym (ap (to_bits f) (differs_from_itself x (subst T (sym h) tt)))
 
 pub no_nan : (x : Float) → ne x x ≡ false → T (not (is_nan x))
 no_nan x h = subst (λ (b : Bool). T (not b)) (sym h ∙ differs_if_nan x) tt

@@ -1,5 +1,7 @@
 // Floating numbers: their bits, the operations on them, their flags. a is the first operand's value, b
 // the second's.
+#![tactic(auto)]
+
 ghost use Rattle.std.specs.Prelude.{◌≡◌, ◌||◌, is_nan};
 ghost use Rattle.std.specs.Float.{binary32, binary64};
 ghost use Rattle.floats.specs.Values.{bits_in, combined, float_of, number_in, result_in};
@@ -8,7 +10,7 @@ ghost use Rattle.machine.specs.Floats.{bits_of, compared_floats, computed, infin
 use machine::{Arithmetic, FloatResult, Kind};
 
 // An operand's value: a short or a long floating number.
-#[derive(Drop)]
+#[derive(Clone, Copy)]
 pub enum Float {
     Short(f32),
     Long(f64),

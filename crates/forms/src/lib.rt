@@ -1,4 +1,5 @@
 // The nine forms of an operand and their rules: where an operand is.
+#![tactic(auto)]
 ghost use Rattle.std.specs.Prelude.{◌≡◌, ◌&&◌, not, ◌*◌, ◌<◌, ◌≤◌, eqb, ltb};
 ghost use Rattle.forms.specs.Answers.{Behind, SmallLocation, location_as};
 ghost use Rattle.lookup.specs.Answers.{Fits};
@@ -10,7 +11,7 @@ use machine::{Access, Alarm, Map, Size, VirtualAddress};
 use reads::Got;
 
 // Where an operand is, or an alarm's argument and the alarm.
-#[derive(Drop)]
+#[derive(Clone, Copy)]
 pub enum Location {
     Immediate(u32),
     Register(u32),

@@ -1,5 +1,7 @@
 // Numbers of each size, their bits, and a result with its flags.
 // a is the first operand's value, b the second's; of each the last L bytes count.
+#![tactic(auto)]
+
 ghost use Rattle.std.specs.Prelude.{◌≡◌, not, ◌≤◌, ◌<◌};
 ghost use Rattle.std.specs.Int.Bits.{bit_and, bit_or, bit_xor};
 ghost use Rattle.machine.specs.Words.{pick, length_of, span};

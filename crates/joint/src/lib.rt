@@ -1,5 +1,6 @@
 // Loads two lists into one memory. Memory stays as it is where they clash, so that this is found out
 // before anything is put, in a scratch that the caller lends.
+#![tactic(auto)]
 ghost use Rattle.std.specs.Prelude.{◌≡◌, ◌++◌, ◌<◌, length};
 ghost use Rattle.lists.specs.Lists.{puts_of};
 ghost use Rattle.load.specs.Judged.{Sound};
@@ -9,7 +10,7 @@ ghost use Rattle.joint.specs.Parts.{both_refusal, pair_refusal};
 use lists::{DESK_PIECES, LoadAnswer, LoadRefusal};
 
 // Why two lists are not loaded: numbers 1 and 17 to 19 as for one list, 22 and 23.
-#[derive(Drop)]
+#[derive(Clone, Copy)]
 pub enum JointRefusal {
     Load(LoadRefusal),
     Scratch,
@@ -17,7 +18,7 @@ pub enum JointRefusal {
 }
 
 // Whether two lists are loaded.
-#[derive(Drop)]
+#[derive(Clone, Copy)]
 pub enum JointAnswer {
     Accepted,
     Refused(JointRefusal),

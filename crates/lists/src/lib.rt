@@ -1,4 +1,5 @@
 // Load lists: their commands one by one, and what is refused of a whole list.
+#![tactic(auto)]
 ghost use Rattle.std.specs.Prelude.{◌≡◌, ◌+◌, ◌≤◌, ◌<◌, length};
 ghost use Rattle.lists.specs.Lists.{next_at, piece_count, place_after, put_bytes, width_of};
 ghost use Rattle.lists.specs.Refusals.{all_inside, list_refusal, load_answer_number, load_refusal_number};
@@ -11,7 +12,7 @@ pub const DESK_PIECES: usize = 4096;
 
 // A command of a list: 01h moves the place to an address; 02h, 03h and 04h, the pieces, put a byte,
 // four bytes, so many copies of a byte at the place, which advances past them.
-#[derive(Drop)]
+#[derive(Clone, Copy)]
 pub enum Command {
     Move(RealAddress),
     Byte(u8),
@@ -21,7 +22,7 @@ pub enum Command {
 
 // What stands at an offset of a list: 00h, its end; a command; or neither, since the byte is unknown
 // or the list is cut short.
-#[derive(Drop)]
+#[derive(Clone, Copy)]
 pub enum Next {
     End,
     More(Command),
@@ -29,7 +30,7 @@ pub enum Next {
 }
 
 // Why a list is not loaded: numbers 1 and 17 to 19.
-#[derive(Drop)]
+#[derive(Clone, Copy)]
 pub enum LoadRefusal {
     Length,
     Malformed,
@@ -38,7 +39,7 @@ pub enum LoadRefusal {
 }
 
 // Whether a list is loaded.
-#[derive(Drop)]
+#[derive(Clone, Copy)]
 pub enum LoadAnswer {
     Accepted,
     Refused(LoadRefusal),

@@ -1,6 +1,8 @@
 // The map: every step from a virtual address to a frame number and a real address. One byte is
 // looked up in the mode that the status tells; bytes in one page by the first of them; a byte
 // beside one that was looked up is found from it; in kernel mode an address is real.
+#![tactic(auto)]
+
 ghost use Rattle.std.specs.Prelude.{◌≡◌, false, ◌<◌, ◌≤◌, ltb};
 ghost use Rattle.lookup.specs.Answers.{Fits, FoundBeside, WholeOf, frame_for, lookup_as, refused_for};
 ghost use Rattle.machine.specs.Map.{in_frame, mapped, real_of, view_by};
@@ -10,7 +12,7 @@ ghost use Rattle.machine.specs.Words.{pick};
 use machine::{Access, Alarm, FrameNumber, Map, RealAddress, VirtualAddress};
 
 // Where a byte lies, or the byte's address and an alarm.
-#[derive(Drop)]
+#[derive(Clone, Copy)]
 pub enum Lookup {
     At(RealAddress),
     Alarm(VirtualAddress, Alarm),
@@ -18,7 +20,7 @@ pub enum Lookup {
 
 // Where the first of some bytes lies, the others adjoining it, or its address and an alarm; or the
 // bytes do not lie in one page.
-#[derive(Drop)]
+#[derive(Clone, Copy)]
 pub enum Whole {
     At(RealAddress),
     Alarm(VirtualAddress, Alarm),
@@ -26,7 +28,7 @@ pub enum Whole {
 }
 
 // The place of a byte in the page of one already looked up, or not there.
-#[derive(Drop)]
+#[derive(Clone, Copy)]
 pub enum Neighbour {
     At(RealAddress),
     Elsewhere,

@@ -2,7 +2,7 @@
 -- interval, and no command between the rows.
 use Prim.Native.Nat.{ℕ, zero, suc, ◌+◌, ◌≤◌, ◌<◌}
 use mathlib.Core.Path.{◌≡◌, refl}
-use mathlib.Core.Bool.{Bool, true, false, ◌&&◌, ◌||◌, and_false}
+use mathlib.Core.Bool.{Bool, true, false, ◌&&◌, ◌||◌, and-false}
 use mathlib.Core.List.{List, [], ◌∷◌}
 use mathlib.Core.Logic.{⊎_elim}
 use mathlib.Core.Option.{none}
@@ -43,7 +43,7 @@ module _ (lo hi b : ℕ) (l : lo ≤ b) (h : b < hi) where
   outside : (n : ℕ) → T (leb (n + 3) lo || leb hi n) → (leb n b && ltb b (n + 3)) ≡ false
   outside n t =
       ⊎_elim
-      (λ p. rw (le-ltb b (n + 3) (omega (arith, leb→le))) (and_false (leb n b)))
+      (λ p. rw (le-ltb b (n + 3) (omega (arith, leb→le))) (and-false (leb n b)))
       (λ p. rw (lt-leb n b (omega (arith, leb→le))))
       (or_yes (leb (n + 3) lo) (leb hi n) t)
 

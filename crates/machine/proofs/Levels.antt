@@ -2,7 +2,7 @@
 -- level fits beside the others.
 use Prim.Native.Nat.{ℕ, zero, suc, ◌+◌, ◌-◌, ◌*◌, ◌/◌, ◌%◌, ◌^◌, ◌≤◌, ◌<◌}
 use mathlib.Core.Path.{◌≡◌, refl, ap, ◌∙◌}
-use mathlib.Core.Bool.{Bool, true, false, ◌&&◌, and_false}
+use mathlib.Core.Bool.{Bool, true, false, ◌&&◌, and-false}
 use native.Mathlib.Nat.{zero-div, div-lt_iff_lt-mul, add-div_right}
 use native.Mathlib.Decide.{dec_le}
 use native.Mathlib.Omega.{arith}
@@ -28,7 +28,7 @@ module _ (k p l : ℕ) (some : 0 < k) where
   due_free free = due_step k p l some ∙ simp (ne_eqb _ _ free)
 
   pub due_held : ltb l k ≡ false → due k p l ≡ due (k - 1) p l
-  due_held low = due_step k p l some ∙ simp (low, and_false)
+  due_held low = due_step k p l some ∙ simp (low, and-false)
 
 -- where level k is not pending, p / 2 ^ k is even, so adding the level carries nothing over
 pub level-fits : (n k p : ℕ) → k < n → p < 2 ^ n → (p / 2 ^ k % 2 ≡ 1 → ⊥) → p + 2 ^ k < 2 ^ n

@@ -2,7 +2,7 @@
 -- and counts by unsigned arithmetic.
 use Prim.Native.Nat.{ℕ, zero, suc, ◌+◌, ◌-◌, ◌*◌, ◌/◌, ◌%◌, ◌^◌, ◌≤◌, ◌<◌}
 use mathlib.Core.Path.{◌≡◌, refl, ap, ◌∙◌}
-use mathlib.Core.Bool.{Bool, true, false, not, and_true}
+use mathlib.Core.Bool.{Bool, true, false, not, and-true}
 use native.Mathlib.Nat.{mod-eq_of_lt, zero-div, div-zero, div-le_self, div-eq_of_lt, mul-mod_left, lt_of_lt_of_le}
 use native.Mathlib.Nat.{pow-suc}
 use native.Mathlib.Omega.{arith}
@@ -64,7 +64,7 @@ pub with_sign-fits : (L : ℕ) (s : Bool) (n : ℕ) → 1 ≤ L
     → fits L (with_sign s n) ≡ pick s (leb n (half L)) (ltb n (half L))
 with_sign-fits L true n l =
     fits_gap L (gap_neg (gap_pos n))
-    ∙ rw (lt-ltb 0 (half L + n) (omega (arith, half_twice L l, span_positive L)), and_true)
+    ∙ rw (lt-ltb 0 (half L + n) (omega (arith, half_twice L l, span_positive L)), and-true)
     (leb_same n (0 + half L) n (half L) (omega arith) (omega arith))
 with_sign-fits L false n l =
     fits_gap L (gap_pos n)

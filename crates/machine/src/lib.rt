@@ -1,4 +1,5 @@
 // The MI desk's types. What they mean is defined in specs/, in document 01's order.
+#![tactic(auto)]
 ghost use Rattle.std.specs.Prelude.{eqb, ◌≡◌};
 ghost use Rattle.machine.specs.Words.{length_of, pick};
 ghost use Rattle.machine.specs.Alarms.{alarm_cause, alarm_number, alarm_numbers, its_own_cause};
@@ -16,19 +17,19 @@ pub const CONTROL_BLOCK_BYTES: u64 = 80;
 // An address that a command names: real in kernel mode, looked up in the map in user mode. Laid out as
 // in C, since a breakpoint has one.
 #[repr(C)]
-#[derive(Drop)]
+#[derive(Clone, Copy)]
 pub struct VirtualAddress(pub u32);
 
 // The place of a byte in memory.
-#[derive(Drop)]
+#[derive(Clone, Copy)]
 pub struct RealAddress(pub u32);
 
 // A frame is 512 bytes of memory; frame f starts at 512 * f.
-#[derive(Drop)]
+#[derive(Clone, Copy)]
 pub struct FrameNumber(pub u32);
 
 // Why a byte is wanted: as a byte of a command, to be read, or to be written.
-#[derive(Drop)]
+#[derive(Clone, Copy)]
 pub enum Access {
     Fetch,
     Read,
@@ -36,7 +37,7 @@ pub enum Access {
 }
 
 // The sizes of a value.
-#[derive(Drop)]
+#[derive(Clone, Copy)]
 pub enum Size {
     B,
     H,
@@ -44,7 +45,7 @@ pub enum Size {
 }
 
 // The kinds of a floating number, short and long (document 02, F-6).
-#[derive(Drop)]
+#[derive(Clone, Copy)]
 pub enum Kind {
     F,
     D,
@@ -52,7 +53,7 @@ pub enum Kind {
 
 // What a command does with an operand: reads its value, uses its address, writes it, or reads and
 // then writes it.
-#[derive(Drop)]
+#[derive(Clone, Copy)]
 pub enum Role {
     Value,
     Address,
@@ -61,7 +62,7 @@ pub enum Role {
 }
 
 // Where a command's result goes.
-#[derive(Drop)]
+#[derive(Clone, Copy)]
 pub enum Target {
     Nowhere,
     Register(u32),
@@ -69,14 +70,14 @@ pub enum Target {
 }
 
 // What an operation gives: a value and the flags that it sets.
-#[derive(Drop)]
+#[derive(Clone, Copy)]
 pub struct Result {
     pub value: u32,
     pub flags: u32,
 }
 
 // The operations on two floating numbers.
-#[derive(Drop)]
+#[derive(Clone, Copy)]
 pub enum Arithmetic {
     Add,
     Sub,
@@ -85,14 +86,14 @@ pub enum Arithmetic {
 }
 
 // What an operation on floating numbers gives: the bits of its result and the flags that it sets.
-#[derive(Drop)]
+#[derive(Clone, Copy)]
 pub struct FloatResult {
     pub bits: u64,
     pub flags: u32,
 }
 
 // Why a command was broken off: alarms 8 to 15 and 21.
-#[derive(Drop)]
+#[derive(Clone, Copy)]
 pub enum Alarm {
     Address,
     Absent,
@@ -106,21 +107,21 @@ pub enum Alarm {
 }
 
 // Where the map lies: its base, and its length in entries.
-#[derive(Drop)]
+#[derive(Clone, Copy)]
 pub struct Map {
     pub base: RealAddress,
     pub length: u32,
 }
 
 // A desk is running, or stopped with a number.
-#[derive(Drop)]
+#[derive(Clone, Copy)]
 pub enum Mark {
     Running,
     Stopped(u32),
 }
 
 // The state that travels by value beside the lent memory.
-#[derive(Drop)]
+#[derive(Clone, Copy)]
 pub struct Desk {
     pub registers: [u32; 16],
     pub status: u32,
@@ -133,7 +134,7 @@ pub struct Desk {
 }
 
 // Why a call was refused: numbers 1 to 7.
-#[derive(Drop)]
+#[derive(Clone, Copy)]
 pub enum Refusal {
     Length,
     SystemBlock,
@@ -145,7 +146,7 @@ pub enum Refusal {
 }
 
 // Whether a call was carried out.
-#[derive(Drop)]
+#[derive(Clone, Copy)]
 pub enum Answer {
     Accepted,
     Refused(Refusal),
@@ -153,7 +154,7 @@ pub enum Answer {
 
 // What a step came to: refused; a command done; a kernel entry with its cause; a stop with its
 // number.
-#[derive(Drop)]
+#[derive(Clone, Copy)]
 pub enum StepAnswer {
     Refused(Refusal),
     Done,
@@ -162,21 +163,21 @@ pub enum StepAnswer {
 }
 
 // What the call for a fresh desk and a level request hand back.
-#[derive(Drop)]
+#[derive(Clone, Copy)]
 pub struct Reply {
     pub answer: Answer,
     pub desk: Desk,
 }
 
 // What a step hands back.
-#[derive(Drop)]
+#[derive(Clone, Copy)]
 pub struct StepReply {
     pub answer: StepAnswer,
     pub desk: Desk,
 }
 
 // What a run hands back: steps counts those that it made.
-#[derive(Drop)]
+#[derive(Clone, Copy)]
 pub struct RunReply {
     pub answer: Answer,
     pub steps: u64,

@@ -1,6 +1,7 @@
 // The calls for programs in C and Rust: the state as bytes; memory, load lists, scratch and breakpoints
 // as lent slices. Any bytes may be handed in as any of them, any numbers and switches as breakpoints;
 // every call answers. Beside them the version of the archive.
+#![tactic(auto)]
 ghost use Rattle.std.specs.Prelude.{◌≡◌, length, ◌≤◌};
 ghost use Rattle.midesk.specs.Exports.{fresh_call, load_both_call, load_call, request_call, run_call, run_to_call, step_call};
 ghost use Rattle.midesk.specs.Exports.{step_code, version};
@@ -81,7 +82,7 @@ pub extern "C" fn midesk_run(
 }
 
 // A run with breakpoints whose place is not yet found: what it came to, and R15 there.
-#[derive(Drop)]
+#[derive(Clone, Copy)]
 pub struct Unplaced {
     pub answer: RunToAnswer,
     pub r15: u32,

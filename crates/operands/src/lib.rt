@@ -1,4 +1,5 @@
 // The operands of a command, left to right: what each one's role takes from it.
+#![tactic(auto)]
 ghost use Rattle.std.specs.Prelude.{◌≡◌, ◌<◌, eqb};
 ghost use Rattle.forms.specs.Answers.{SmallLocation, SmallTarget, location_as};
 ghost use Rattle.fetches.specs.Answers.{FetchedFrom};
@@ -18,7 +19,7 @@ use machine::{Access, Alarm, Map, RealAddress, Role, Size, Target, VirtualAddres
 use reads::Got;
 
 // What one operand gives, or an alarm's argument and the alarm.
-#[derive(Drop)]
+#[derive(Clone, Copy)]
 pub enum Taken {
     Got(u32, Target),
     Alarm(u32, Alarm),
@@ -26,7 +27,7 @@ pub enum Taken {
 
 // What all operands give: the first's and the second's number, and where the last one's result
 // goes; or an alarm's argument and the alarm.
-#[derive(Drop)]
+#[derive(Clone, Copy)]
 pub enum Operands {
     Ready(u32, u32, Target),
     Alarm(u32, Alarm),

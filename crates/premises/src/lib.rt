@@ -1,1 +1,2 @@
 // No code: that the premises of demand 3 can be met, and that each of them is needed.
+#![tactic(auto)]

@@ -1,5 +1,7 @@
 // MULT and DIV, by sign and magnitude. a is the first operand's value, b the second's; of each the
 // last L bytes count.
+#![tactic(auto)]
+
 ghost use Rattle.std.specs.Prelude.{◌≡◌, ◌-◌, ◌%◌, ◌<◌, ◌≤◌, nat_le, nat_lt};
 ghost use Rattle.machine.specs.Words.{pick, length_of, span};
 ghost use Rattle.machine.specs.Integers.{half, natural, negative, multiplied, divided};

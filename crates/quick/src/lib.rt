@@ -1,6 +1,7 @@
 // The quick way: the command at R15, if it surely ends quietly. Its operands surely give no alarm,
 // every place that it uses is found before anything but R15 changes, and then nothing can fail. Where
 // it is not sure, R15 is put back, and nothing has changed.
+#![tactic(auto)]
 ghost use Rattle.std.specs.Prelude.{◌≡◌, ◌%◌, ◌<◌};
 ghost use Rattle.commands.specs.Execution.{action_end};
 ghost use Rattle.fetches.specs.Answers.{FetchedFrom};
@@ -24,7 +25,7 @@ use machine::{Access, Map, RealAddress, Result, Size, VirtualAddress};
 use sure::{Goes, Operands};
 
 // The command is done, with a new status; or it is not sure to end so.
-#[derive(Drop)]
+#[derive(Clone, Copy)]
 pub enum Quick {
     Done(u32),
     Unsure,

@@ -1,5 +1,6 @@
 // Values of B, H and W through the map. Where the bytes of a value lie in one page, one lookup
 // answers for all of them; the bytewise way stands beside it.
+#![tactic(auto)]
 ghost use Rattle.std.specs.Prelude.{◌≡◌, ◌≤◌};
 ghost use Rattle.lookup.specs.Answers.{Fits};
 ghost use Rattle.machine.specs.Map.{read_bytes, view_by};
@@ -10,7 +11,7 @@ use lookup::{Lookup, Whole};
 use machine::{Access, Alarm, Map, Size, VirtualAddress};
 
 // A value, or an alarm's argument and the alarm.
-#[derive(Drop)]
+#[derive(Clone, Copy)]
 pub enum Got {
     Value(u32),
     Alarm(u32, Alarm),

@@ -1,5 +1,6 @@
 // How a command ends, and the way of a result to its target. The working registers are lent; where
 // the command alarms they are of no account.
+#![tactic(auto)]
 ghost use Rattle.std.specs.Prelude.{◌≡◌};
 ghost use Rattle.forms.specs.Answers.{SmallTarget};
 ghost use Rattle.lookup.specs.Answers.{Fits};
@@ -15,7 +16,7 @@ use stores::Stored;
 
 // How a command ended: with a new status; a system call with its argument; stopped; a control
 // block's address to resume from; an alarm's argument and the alarm.
-#[derive(Drop)]
+#[derive(Clone, Copy)]
 pub enum Out {
     Done(u32),
     System(u32),

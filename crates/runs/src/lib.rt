@@ -1,4 +1,5 @@
 // Steps one after another, up to a number of them, a stop or a watched address.
+#![tactic(auto)]
 ghost use Rattle.std.specs.Prelude.{false, ◌≡◌, eqb, length, ◌%◌};
 ghost use Rattle.breakpoints.specs.Gathered.{among_at, held_answer};
 ghost use Rattle.breakpoints.specs.RunTo.{ran_to, steps_to};
@@ -21,7 +22,7 @@ fn running(d: Desk, registers: [u32; 16], status: u32) -> Desk
 
 // What some steps came to: their number, whether they were held, the desk and, where one step was
 // asked for, what it came to.
-#[derive(Drop)]
+#[derive(Clone, Copy)]
 pub struct Progress {
     pub count: u64,
     pub last: StepAnswer,

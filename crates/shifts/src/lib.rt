@@ -1,4 +1,6 @@
 // SH and ROT, of words. a is the first operand's value, the count; b the second's, the word.
+#![tactic(auto)]
+
 ghost use Rattle.std.specs.Prelude.{◌≡◌, ◌*◌, ◌/◌, ◌%◌, ◌^◌, ◌≤◌, ◌<◌, pos, ◌*ℤ◌};
 ghost use Rattle.machine.specs.Words.{span};
 ghost use Rattle.machine.specs.Integers.{signed, fits};

@@ -1,4 +1,6 @@
 // The state of a desk, put together in one place: fresh, all zeros, with other parts, resumed.
+#![tactic(auto)]
+
 ghost use Rattle.std.specs.Prelude.{◌≡◌};
 ghost use Rattle.machine.specs.Calls.{fresh_desk, zero_desk};
 ghost use Rattle.machine.specs.State.{desk_resumed, desk_with};

@@ -1,6 +1,7 @@
 // Values and rows of bytes to memory through the map: every byte is looked up, in the memory from
 // the start, before any is written. Where the bytes of a value lie in one page, one lookup answers
 // for all of them; the bytewise way stands beside it.
+#![tactic(auto)]
 ghost use Rattle.std.specs.Prelude.{◌≡◌, ◌≤◌, take};
 ghost use Rattle.lookup.specs.Answers.{Fits};
 ghost use Rattle.machine.specs.Words.{bytes_of, length_of};
@@ -10,7 +11,7 @@ use lookup::{Lookup, Whole};
 use machine::{Access, Alarm, Map, RealAddress, Size, VirtualAddress};
 
 // A store is done, or an alarm's argument and the alarm.
-#[derive(Drop)]
+#[derive(Clone, Copy)]
 pub enum Stored {
     Done,
     Alarm(u32, Alarm),

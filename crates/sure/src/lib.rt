@@ -2,6 +2,7 @@
 // page, each in a register, immediate, or in one page that may be used so. All else is unsure, of
 // which nothing is said. Only R15 changes. (`narrow` has the same for bytes and halfwords, `allforms`
 // words in the other forms too.)
+#![tactic(auto)]
 ghost use Rattle.std.specs.Prelude.{◌≡◌, ◌<◌};
 ghost use Rattle.fetches.specs.Answers.{FetchedFrom};
 ghost use Rattle.lookup.specs.Answers.{Fits};
@@ -16,7 +17,7 @@ use lookup::Whole;
 use machine::{Access, Map, RealAddress, Role, Size, VirtualAddress};
 
 // Where an operand is: its number; a register and what it holds; its address.
-#[derive(Drop)]
+#[derive(Clone, Copy)]
 pub enum Spot {
     Number(u32),
     Register(u32, u32),
@@ -25,7 +26,7 @@ pub enum Spot {
 }
 
 // Where a result goes; in memory to an address and the place that was looked up for writing.
-#[derive(Drop)]
+#[derive(Clone, Copy)]
 pub enum Goes {
     Nowhere,
     Register(u32),
@@ -33,7 +34,7 @@ pub enum Goes {
 }
 
 // What one operand gives.
-#[derive(Drop)]
+#[derive(Clone, Copy)]
 pub enum Taken {
     Got(u32, Goes),
     Unsure,
@@ -41,7 +42,7 @@ pub enum Taken {
 
 // What all operands give: the first's and the second's number, and where the last one's result
 // goes.
-#[derive(Drop)]
+#[derive(Clone, Copy)]
 pub enum Operands {
     Ready(u32, u32, Goes),
     Unsure,

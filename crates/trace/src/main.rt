@@ -4,11 +4,16 @@
 // covers them, system block 0, control block 256, start 512, and makes at most 1,000 steps. Each
 // line has the step, and R15 and the status after it; the last says `stop` with the number, or
 // `end`. Longer input prints only `1`, the number of the refusal.
+#![tactic(auto)]
+
 ghost use Rattle.std.specs.Prelude.{◌≡◌, ◌≤◌};
 ghost use Rattle.trace.specs.Length.{least_length};
 
-use libc::{STDIN_FILENO, STDOUT_FILENO};
 use machine::{Desk, Mark, RealAddress, VirtualAddress};
+
+const STDIN_FILENO: i32 = 0;
+
+const STDOUT_FILENO: i32 = 1;
 
 // The least allowed memory length that covers n bytes.
 fn covering(n: usize) -> usize

@@ -1,4 +1,6 @@
 // Addresses to watch for, as plain data, and a filter that most other addresses fail.
+#![tactic(auto)]
+
 ghost use Rattle.std.specs.Prelude.{◌≡◌, ◌+◌, ◌%◌, ◌≤◌, ◌<◌, length, take, drop};
 ghost use Rattle.watch.specs.Addresses.{among as amongOf, SameSet, passes, with_bit, Covers};
 

@@ -1,5 +1,7 @@
 // Numbers and their bytes, highest first, at places of a slice; and the sums of 32 bits that
 // addresses and register steps are made of.
+#![tactic(auto)]
+
 ghost use Rattle.std.specs.Prelude.{◌≡◌, ◌+◌, ◌*◌, ◌<◌, ◌≤◌, length};
 ghost use Rattle.std.proofs.lemmas.List.Edits.{sets};
 ghost use Rattle.machine.specs.Words.{bytes_of, bytes_of_words, length_of, lowered, raised, value_at, word_at, words_at};
