@@ -1,6 +1,7 @@
 // A run with the addresses of the armed breakpoints of a list: whether it was held is known after it, by
 // which breakpoint not yet.
 #![tactic(auto)]
+
 ghost use Rattle.std.specs.Prelude.{◌≡◌, length, take, ◌≤◌};
 ghost use Rattle.breakpoints.specs.Gathered.{among_at, held_answer, run_armed_of};
 ghost use Rattle.breakpoints.specs.RunTo.{ran_to, steps_to};

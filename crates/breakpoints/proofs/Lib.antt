@@ -7,10 +7,6 @@ pub mod Search
 pub mod FirstArmed
 -- the addresses of the armed ones
 pub mod Gathering
--- the walks of functions that take a lent list
-pub mod Locals
-pub mod Lent
-pub mod Calling
 -- runs with breakpoints
 pub mod Steps
 -- the place of a hold

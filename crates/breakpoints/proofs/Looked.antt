@@ -1,10 +1,11 @@
 -- No more than the first 64 of a list's breakpoints are looked at: how many those are, and what is so of a place among
 -- them.
 use mathlib.Core.Path.{◌≡◌}
-use Prim.Native.Nat.{ℕ, ◌<◌, ◌≤◌}
+use Prim.Native.Nat.{ℕ, ◌<◌, ◌≤◌, min}
 use native.Mathlib.Nat.{lt_of_lt_of_le, min-le_left, min-le_right}
 use mathlib.Core.List.{List}
 use lib.Dec.{T, ltb, ltb→lt}
+use borrow.Author.Tests.{lt-ltb}
 use lib.ListN.{length, get_or, take, length-take}
 use lib.Seq.{get_or-take}
 use Rattle.breakpoints.specs.declared.Breakpoint.{Breakpoint}
@@ -30,3 +31,11 @@ module _ (ps : List Breakpoint) where
 
     pub same : get_or (take most ps) i unarmed ≡ get_or ps i unarmed
     same = get_or-take most ps i unarmed (lt_of_lt_of_le below looked-few)
+
+  -- what a test against the number that `looked_at` gives tells
+  module _ (i n : ℕ) (e : n ≡ min most (length ps)) where
+    pub tested : i < n → T (ltb i looked)
+    tested l = rw (length-take most ps, ← e, lt-ltb i n l) tt
+
+    pub past : n ≤ i → looked ≤ i
+    past l = rw (length-take most ps, ← e) l

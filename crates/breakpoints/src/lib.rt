@@ -1,5 +1,6 @@
 // Breakpoints: a lent list of them, each an R15 value and whether it is armed.
 #![tactic(auto)]
+
 ghost use Rattle.std.specs.Prelude.{◌≡◌, min, take};
 ghost use Rattle.breakpoints.specs.Breakpoints.{most, first_armed};
 ghost use Rattle.breakpoints.specs.RunTo.{run_to_answer_number, run_to_refusal_number};

@@ -2,6 +2,7 @@
 // state, and whether a reply is the one that a case expects. Nothing here calls the desk. Every
 // function is proved safe and ending, on any bytes.
 #![tactic(auto)]
+
 pub mod answers;
 pub mod difference;
 pub mod fields;

@@ -1,5 +1,6 @@
 // What numbers 1 to 5 ask of a memory, a block, the map, a status and a pending set.
 #![tactic(auto)]
+
 ghost use Rattle.std.specs.Prelude.{◌≡◌, ◌&&◌, not, ◌≤◌};
 ghost use Rattle.machine.specs.State.{allowed_length, block_fits as blockFitsOf, is_pending, map_fits, valid_kernel_status};
 ghost use Rattle.machine.specs.State.{valid_status, valid_user_status};

@@ -1,6 +1,7 @@
 // The MI desk: make a fresh one, step it, run it, run it with breakpoints, request an interrupt
 // level. Every call answers every input.
 #![tactic(auto)]
+
 ghost use Rattle.std.specs.Prelude.{◌≡◌, length};
 ghost use Rattle.breakpoints.specs.RunTo.{run_to_of};
 ghost use Rattle.machine.specs.Calls.{fresh_of, request_of, run_of, step_of};

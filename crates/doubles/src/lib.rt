@@ -1,6 +1,7 @@
 // Values of eight bytes through the map: a D in memory. Where its bytes lie in one page, one lookup
 // answers for all of them; else it is read word by word, and stored byte by byte.
 #![tactic(auto)]
+
 ghost use Rattle.std.specs.Prelude.{◌≡◌, ◌*◌, ◌+◌, ◌≤◌, length};
 ghost use Rattle.std.proofs.lemmas.List.Edits.{sets};
 ghost use Rattle.doubles.specs.Answers.{bits_as};

@@ -1,6 +1,7 @@
 // One floating command, once its byte is fetched: operands, operation, result. Lookups and forms are
 // those of the commands on integers.
 #![tactic(auto)]
+
 ghost use Rattle.std.specs.Prelude.{◌≡◌, ◌<◌, ◌≤◌, eqb};
 ghost use Rattle.doubles.specs.Answers.{bits_as};
 ghost use Rattle.fetches.specs.Answers.{FetchedFrom, PairOrAlarm, operand_bytes_as};

@@ -1,5 +1,6 @@
 // The pending set, and the interrupt level that is due.
 #![tactic(auto)]
+
 ghost use Rattle.std.specs.Prelude.{◌≡◌, ◌^◌, ◌≤◌};
 ghost use Rattle.levels.specs.Due.{interrupt_of};
 ghost use Rattle.machine.specs.State.{with_level, without_level};

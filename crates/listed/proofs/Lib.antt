@@ -1,2 +1,1 @@
--- Proofs of the runs with an array of breakpoints.
-pub mod Lending
+-- Proofs of the runs with an array of breakpoints: the search finds them.

@@ -1,5 +1,6 @@
 // A run with the breakpoints of an array, for callers that have no list to lend.
 #![tactic(auto)]
+
 ghost use Rattle.std.specs.Prelude.{◌≡◌, ◌≤◌, take};
 ghost use Rattle.breakpoints.specs.RunTo.{run_to_of};
 

@@ -1,6 +1,7 @@
 // How a command ends, and the way of a result to its target. The working registers are lent; where
 // the command alarms they are of no account.
 #![tactic(auto)]
+
 ghost use Rattle.std.specs.Prelude.{◌≡◌};
 ghost use Rattle.forms.specs.Answers.{SmallTarget};
 ghost use Rattle.lookup.specs.Answers.{Fits};

@@ -1,6 +1,7 @@
 // The constant table: operand count, sizes and roles of each command byte; and the mode that a byte
 // needs.
 #![tactic(auto)]
+
 ghost use Rattle.std.specs.Prelude.{◌≡◌, ◌<◌, ◌≤◌};
 ghost use Rattle.machine.specs.Code.{known, read_by, written_to};
 ghost use Rattle.machine.specs.FloatCode.{known_float};

@@ -1,6 +1,7 @@
 // ADD, SUB and CMP: sums, differences and the order of signed numbers.
 // a is the first operand's value, b the second's; of each the last L bytes count.
 #![tactic(auto)]
+
 ghost use Rattle.std.specs.Prelude.{◌≡◌, ◌+◌, ◌%◌, ◌<◌};
 ghost use Rattle.machine.specs.Words.{length_of, span};
 ghost use Rattle.machine.specs.Integers.{half, natural, added, subtracted, compared};
