@@ -1,6 +1,7 @@
 // The bytes of a command: its command byte, and the six bytes of each operand. The lookup of the
 // command byte answers for the operands in its page.
 #![tactic(auto)]
+
 ghost use Rattle.std.specs.Prelude.{◌≡◌, ◌+◌, ◌≤◌, length};
 ghost use Rattle.fetches.specs.Answers.{ByteOrAlarm, FetchedFrom, NearOf, PairOrAlarm, PlaceOrAlarm};
 ghost use Rattle.fetches.specs.Answers.{command_byte_as, operand_bytes_as, operand_bytes_at};

@@ -2,6 +2,7 @@
 // as lent slices. Any bytes may be handed in as any of them, any numbers and switches as breakpoints;
 // every call answers. Beside them the version of the archive.
 #![tactic(auto)]
+
 ghost use Rattle.std.specs.Prelude.{◌≡◌, length, ◌≤◌};
 ghost use Rattle.midesk.specs.Exports.{fresh_call, load_both_call, load_call, request_call, run_call, run_to_call, step_call};
 ghost use Rattle.midesk.specs.Exports.{step_code, version};

@@ -1,6 +1,7 @@
 // Values of B, H and W through the map. Where the bytes of a value lie in one page, one lookup
 // answers for all of them; the bytewise way stands beside it.
 #![tactic(auto)]
+
 ghost use Rattle.std.specs.Prelude.{◌≡◌, ◌≤◌};
 ghost use Rattle.lookup.specs.Answers.{Fits};
 ghost use Rattle.machine.specs.Map.{read_bytes, view_by};

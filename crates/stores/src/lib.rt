@@ -2,6 +2,7 @@
 // the start, before any is written. Where the bytes of a value lie in one page, one lookup answers
 // for all of them; the bytewise way stands beside it.
 #![tactic(auto)]
+
 ghost use Rattle.std.specs.Prelude.{◌≡◌, ◌≤◌, take};
 ghost use Rattle.lookup.specs.Answers.{Fits};
 ghost use Rattle.machine.specs.Words.{bytes_of, length_of};

@@ -1,2 +1,0 @@
-use Rattle.std.proofs.Common.{◌-◌, length, ap, ◌∙◌, ⊎_elim, length-set, rules}
-use Rattle.cases.proofs.snapshot.changed.Goals as goal
