@@ -1,5 +1,6 @@
 // The match over the command byte: what a command does with its operands' numbers.
 #![tactic(auto)]
+
 ghost use Rattle.std.specs.Prelude.{◌≡◌};
 ghost use Rattle.actions.specs.Actions.{action_of, result_action};
 ghost use Rattle.machine.specs.Code.{DIV};

@@ -3,6 +3,7 @@
 // the operands are taken. All else is unsure; then nothing has changed. (`sure` has words in the
 // forms 0 to 3 alone, and needs no copy of the registers.)
 #![tactic(auto)]
+
 ghost use Rattle.std.specs.Prelude.{◌<◌};
 ghost use Rattle.fetches.specs.Answers.{FetchedFrom};
 ghost use Rattle.lookup.specs.Answers.{Fits};

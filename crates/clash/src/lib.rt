@@ -2,6 +2,7 @@
 // is found out in a scratch, of which a byte cannot hold "no byte yet, or one of 256": the bytes are
 // compared in two rounds, by their high halves and by their low halves.
 #![tactic(auto)]
+
 ghost use Rattle.std.specs.Prelude.{◌≡◌, not, ◌+◌, ◌≤◌, ◌<◌, length, replicate, take};
 ghost use Rattle.lists.specs.Lists.{put_bytes, puts_of};
 ghost use Rattle.load.specs.Judged.{Puttable, Sound};

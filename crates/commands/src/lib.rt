@@ -1,6 +1,7 @@
 // One command: byte, mode, operands, operation, writes. The working registers are lent; where the
 // command alarms they are of no account, and the caller hands back the copy from the start.
 #![tactic(auto)]
+
 ghost use Rattle.std.specs.Prelude.{◌≡◌, ◌<◌};
 ghost use Rattle.commands.specs.Execution.{action_end, exec_of};
 ghost use Rattle.commands.specs.Goals.{Aims, Attained, AttainedBy, Uniform, given_as, target_at};

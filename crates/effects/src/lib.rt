@@ -2,6 +2,7 @@
 // `actions` has it, by single bytes, so that the compiler makes a table of jumps, and with each size
 // a constant.
 #![tactic(auto)]
+
 ghost use Rattle.std.specs.Prelude.{◌≡◌};
 ghost use Rattle.effects.specs.Effects.{EffectOf, NarrowOf};
 

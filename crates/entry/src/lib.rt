@@ -1,5 +1,6 @@
 // What becomes of a command that did not just go on: kernel entries, RESUME, stops.
 #![tactic(auto)]
+
 ghost use Rattle.std.specs.Prelude.{◌≡◌, ◌+◌, ◌^◌, ◌≤◌};
 ghost use Rattle.entry.specs.Replies.{Blocks, ResumesInKernelMode, alarmed_by, concluded_end, entered_by, reply_of};
 ghost use Rattle.entry.specs.Replies.{stepped};

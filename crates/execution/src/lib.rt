@@ -2,6 +2,7 @@
 // quick way, or from its start by the general one. The sixteen registers are passed by value and
 // returned.
 #![tactic(auto)]
+
 ghost use Rattle.std.specs.Prelude.{◌≡◌, length, ◌%◌};
 ghost use Rattle.execution.specs.Rows.{Rowed};
 ghost use Rattle.lookup.specs.Answers.{Fits};

@@ -1,5 +1,6 @@
 // The nine forms of an operand and their rules: where an operand is.
 #![tactic(auto)]
+
 ghost use Rattle.std.specs.Prelude.{◌≡◌, ◌&&◌, not, ◌*◌, ◌<◌, ◌≤◌, eqb, ltb};
 ghost use Rattle.forms.specs.Answers.{Behind, SmallLocation, location_as};
 ghost use Rattle.lookup.specs.Answers.{Fits};

@@ -1,6 +1,7 @@
 // Loads two lists into one memory. Memory stays as it is where they clash, so that this is found out
 // before anything is put, in a scratch that the caller lends.
 #![tactic(auto)]
+
 ghost use Rattle.std.specs.Prelude.{◌≡◌, ◌++◌, ◌<◌, length};
 ghost use Rattle.lists.specs.Lists.{puts_of};
 ghost use Rattle.load.specs.Judged.{Sound};

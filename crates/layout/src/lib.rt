@@ -1,5 +1,6 @@
 // The state of a desk as 90 bytes (specs/Layout.antt). Any bytes are a state.
 #![tactic(auto)]
+
 ghost use Rattle.std.specs.Prelude.{◌≡◌, ◌≤◌};
 ghost use Rattle.layout.specs.Layout.{mark_number, mark_of, packed, unpacked};
 

@@ -1,5 +1,6 @@
 // Load lists: their commands one by one, and what is refused of a whole list.
 #![tactic(auto)]
+
 ghost use Rattle.std.specs.Prelude.{◌≡◌, ◌+◌, ◌≤◌, ◌<◌, length};
 ghost use Rattle.lists.specs.Lists.{next_at, piece_count, place_after, put_bytes, width_of};
 ghost use Rattle.lists.specs.Refusals.{all_inside, list_refusal, load_answer_number, load_refusal_number};

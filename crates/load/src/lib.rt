@@ -1,5 +1,6 @@
 // Loads a list into a memory: first the whole list is judged, then its pieces are put.
 #![tactic(auto)]
+
 ghost use Rattle.std.specs.Prelude.{◌≡◌, ◌+◌, ◌≤◌, ◌<◌, length, replicate};
 ghost use Rattle.std.proofs.lemmas.List.Edits.{sets};
 ghost use Rattle.lists.specs.Lists.{put_bytes, puts_of};

@@ -1,5 +1,6 @@
 // The MI desk's types. What they mean is defined in specs/, in document 01's order.
 #![tactic(auto)]
+
 ghost use Rattle.std.specs.Prelude.{eqb, ◌≡◌};
 ghost use Rattle.machine.specs.Words.{length_of, pick};
 ghost use Rattle.machine.specs.Alarms.{alarm_cause, alarm_number, alarm_numbers, its_own_cause};

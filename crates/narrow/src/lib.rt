@@ -2,6 +2,7 @@
 // for words. There the size is a constant, here it is known when the command runs: with one function
 // for all sizes, words would pay for the test of the size.
 #![tactic(auto)]
+
 ghost use Rattle.std.specs.Prelude.{◌≡◌, false, ◌<◌};
 ghost use Rattle.fetches.specs.Answers.{FetchedFrom};
 ghost use Rattle.lookup.specs.Answers.{Fits};

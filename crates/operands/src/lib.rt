@@ -1,5 +1,6 @@
 // The operands of a command, left to right: what each one's role takes from it.
 #![tactic(auto)]
+
 ghost use Rattle.std.specs.Prelude.{◌≡◌, ◌<◌, eqb};
 ghost use Rattle.forms.specs.Answers.{SmallLocation, SmallTarget, location_as};
 ghost use Rattle.fetches.specs.Answers.{FetchedFrom};

@@ -2,6 +2,7 @@
 // every place that it uses is found before anything but R15 changes, and then nothing can fail. Where
 // it is not sure, R15 is put back, and nothing has changed.
 #![tactic(auto)]
+
 ghost use Rattle.std.specs.Prelude.{◌≡◌, ◌%◌, ◌<◌};
 ghost use Rattle.commands.specs.Execution.{action_end};
 ghost use Rattle.fetches.specs.Answers.{FetchedFrom};

@@ -1,5 +1,6 @@
 // Refusals 1 to 5 and 7, in number order.
 #![tactic(auto)]
+
 ghost use Rattle.std.specs.Prelude.{◌≡◌};
 ghost use Rattle.machine.specs.Calls.{fresh_refusal, step_refusal};
 

@@ -1,5 +1,6 @@
 // Steps one after another, up to a number of them, a stop or a watched address.
 #![tactic(auto)]
+
 ghost use Rattle.std.specs.Prelude.{false, ◌≡◌, eqb, length, ◌%◌};
 ghost use Rattle.breakpoints.specs.Gathered.{among_at, held_answer};
 ghost use Rattle.breakpoints.specs.RunTo.{ran_to, steps_to};

@@ -1,5 +1,6 @@
 // The commands of the stack: PUSHR, POPR, CALL, RET.
 #![tactic(auto)]
+
 ghost use Rattle.std.specs.Prelude.{◌≡◌, [], ◌++◌, ◌∷◌, ◌+◌, ◌≤◌, length};
 ghost use Rattle.std.proofs.lemmas.List.Edits.{sets};
 ghost use Rattle.lookup.specs.Answers.{Fits};

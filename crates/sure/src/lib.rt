@@ -3,6 +3,7 @@
 // which nothing is said. Only R15 changes. (`narrow` has the same for bytes and halfwords, `allforms`
 // words in the other forms too.)
 #![tactic(auto)]
+
 ghost use Rattle.std.specs.Prelude.{◌≡◌, ◌<◌};
 ghost use Rattle.fetches.specs.Answers.{FetchedFrom};
 ghost use Rattle.lookup.specs.Answers.{Fits};
