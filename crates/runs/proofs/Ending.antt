@@ -13,7 +13,7 @@ use Rattle.machine.specs.Alarms.{OrAlarm, got, alarm}
 use Rattle.machine.specs.Map.{View, view_of, view_by, RealWrites, located}
 use Rattle.machine.specs.Commands.{Done, Completion, done, of_mode, SystemCall, user_command, KernelEffect, halts}
 use Rattle.machine.specs.Commands.{resumes, kernel_command}
-use Rattle.machine.specs.Steps.{resume, Plan, enters, completed, due, user_written, of_user_command}
+use Rattle.machine.specs.Steps.{Plan, enters, completed, due, user_written, of_user_command}
 use Rattle.machine.specs.Steps.{interrupted, user_plan, concluded, user_step, kernel_written, of_kernel_command}
 use Rattle.machine.specs.Steps.{kernel_step, one_step}
 use Rattle.machine.specs.Calls.{Stepped}
