@@ -17,6 +17,12 @@ use Rattle.sure.specs.Answers.{OnlyR15}
 use Rattle.quick.specs.declared.Quick.{Quick}
 use Rattle.quick.specs.declared.Quick.TheVariants as quick
 
+-- the command at R15, from registers r and memory m on to registers q and memory n: it ends quietly
+-- with the status t; or nothing has changed
+abbrev pub Quietly : ℕ → Map → Registers → Memory → Registers → Memory → Quick → Type 0
+Quietly s map r m q n (quick.Done t) = command_done q t n ≡ exec_of s map r m
+Quietly s map r m q n quick.Unsure = (q ≡ r) × (n ≡ m)
+
 -- a result of L bytes that goes to a target ends the command with these registers, status and memory
 abbrev pub Ends : ℕ → ℕ → Map → Memory → Registers → Result → Target → Registers → ℕ → Memory → Type 0
 Ends L s map m r x t q u n = command_done q u n ≡ end_in s map m (λ v. got (stored L x t r))
@@ -25,11 +31,6 @@ Ends L s map m r x t q u n = command_done q u n ≡ end_in s map m (λ v. got (s
 abbrev pub Finishes : End → Registers → Memory → Registers → Memory → Quick → Type 0
 Finishes e r m q n (quick.Done t) = command_done q t n ≡ e
 Finishes e r m q n quick.Unsure = (q ≡ r) × (n ≡ m)
-
--- the command at R15, from registers r and memory m on to registers q and memory n: it ends quietly;
--- or nothing has changed
-abbrev pub Quietly : ℕ → Map → Registers → Memory → Registers → Memory → Quick → Type 0
-Quietly s map r m q n u = Finishes (exec_of s map r m) r m q n u
 
 -- a command whose operands are taken by these rules, from registers r on
 pub record Carried (s : ℕ) (map : Map) (b : ℕ) (ks : List Rule) (r : Registers) (m : Memory) (e : End) : Type 0 where

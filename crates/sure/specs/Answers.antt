@@ -5,15 +5,16 @@ use Rattle.machine.specs.declared.Access.TheVariants.{Read, Write}
 use Rattle.machine.specs.declared.Map.{Map}
 use Rattle.machine.specs.declared.RealAddress.{RealAddress}
 use Rattle.machine.specs.declared.Role.{Role}
+use Rattle.machine.specs.declared.Role.TheVariants.{Value, Address, Destination, Update}
 use Rattle.machine.specs.declared.Target.{Target}
 use Rattle.machine.specs.declared.Target.TheVariants as target
 use Rattle.machine.specs.declared.VirtualAddress.{VirtualAddress}
-use Rattle.machine.specs.Words.{pick, Memory, span}
+use Rattle.machine.specs.Words.{Memory, span}
 use Rattle.machine.specs.State.{Registers, reg}
 use Rattle.machine.specs.Alarms.{got}
 use Rattle.machine.specs.Map.{found_at, View, view_by}
 use Rattle.machine.specs.OnePage.{InOnePage}
-use Rattle.machine.specs.Code.{Rule, written_to}
+use Rattle.machine.specs.Code.{Rule}
 use Rattle.machine.specs.Operands.{Fields, Location, immediate, register, memory, at, formed, operand_at, taken}
 use Rattle.machine.specs.Operands.{taken_by, operands_of}
 use Rattle.sure.specs.declared.Spot.{Spot}
@@ -72,7 +73,10 @@ SmallSpot spot.Unsure = Unit {0}
 
 -- why it looks an operand in memory up
 abbrev pub access_of : Role → Access
-access_of k = pick (written_to k) Write Read
+access_of Value = Read
+access_of Address = Read
+access_of Destination = Write
+access_of Update = Write
 
 -- where a result goes, as a target
 abbrev pub target_of : Goes → Target
