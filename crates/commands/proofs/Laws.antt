@@ -12,7 +12,7 @@ use Rattle.machine.specs.declared.Alarm.TheVariants as alarms
 use Rattle.machine.specs.declared.Access.TheVariants.{Fetch}
 use Rattle.machine.specs.declared.Size.{Size}
 use Rattle.machine.specs.declared.Result.{Result}
-use Rattle.machine.specs.Words.{pick, Memory, length_of, wrap}
+use Rattle.machine.specs.Words.{pick, Memory, length_of}
 use Rattle.machine.specs.State.{Registers, reg, user_mode, flags_of}
 use Rattle.machine.specs.Alarms.{OrAlarm, got, alarm, ◌>>=◌}
 use Rattle.machine.specs.Map.{View, view_by, read_bytes, located, commit}

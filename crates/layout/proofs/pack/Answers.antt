@@ -1,0 +1,44 @@
+-- `pack` is right: registers, other words and the pending set's two bytes, one after the other,
+-- fill the row.
+-- laid at place n, right after others
+use Prim.Native.Nat.{ℕ, ◌+◌, ◌/◌, ◌%◌}
+use mathlib.Core.Path.{◌≡◌, refl, sym, ◌∙◌}
+use mathlib.Core.List.{List, [], ◌∷◌, ◌++◌, append-nil}
+use native.Mathlib.Nat.{div-one}
+use native.Mathlib.Omega.{arith}
+use borrow.Author.Rules.{rules}
+use lib.ListN.{length, length-append}
+use lib.Seq.{sets, sets-eq, drop-length}
+use Rattle.machine.specs.Words.{bytes_of, bytes_of_words}
+use Rattle.machine.proofs.Blocks.{words_append, words_length, sets_append}
+use Rattle.layout.specs.Layout.{words_of, packed}
+use Rattle.layout.proofs.pack.Goals as goal
+
+sets-after : (xs ys b : List ℕ) (i n : ℕ) → i + length xs ≡ n → sets (sets b i xs) n ys ≡ sets b i (xs ++ ys)
+sets-after xs ys b i n e = rw (← e) (sym (sets_append xs ys b i))
+
+row : (rs ws vs b : List ℕ) → length rs ≡ 16 → length ws ≡ 6 → length vs ≡ 2 → length b ≡ 90
+    → sets (sets (sets b 0 (bytes_of_words rs)) 64 (bytes_of_words ws)) 88 vs
+    ≡ bytes_of_words (rs ++ ws) ++ vs
+row rs ws vs b k l m n =
+    let words : List ℕ = bytes_of_words (rs ++ ws) in
+    let r : length (bytes_of_words rs) ≡ 64 = omega (arith, words_length rs) in
+    let w : length words ≡ 88 = words_length (rs ++ ws) ∙ simp length-append (omega arith) in
+    let all : List ℕ = words ++ vs in
+    let whole : 0 + length all ≡ length b = simp length-append (omega arith) in
+    rw (sets-after (bytes_of_words rs) _ b 0 64 (omega arith), ← words_append)
+    (sets-after words vs b 0 88 (omega arith) ∙ sets-eq all b 0 (omega arith) ∙ rw (whole, drop-length, append-nil))
+
+pub returns : goal.returns
+unfolding packed words_of bytes_of
+returns c =
+    let sixteen : length c.args.d.registers ≡ 16 = search rules in
+    let p = c.args.d.pending in
+    rw (c.put_words-2.ensures, c.put_words.ensures, c.mark_word.ensures, div-one p)
+    (row _ _ (p / 256 % 256 ∷ p % 256 ∷ []) _ sixteen refl refl refl)
+
+pub put_words-requires : goal.put_words-requires
+put_words-requires c =
+    let sixteen : length c.args.d.registers ≡ 16 =
+    search rules in
+    omega (arith, sixteen)
