@@ -1,6 +1,6 @@
 // The calls for programs in C and Rust: the state as bytes; memory, load lists, scratch and breakpoints
 // as lent slices. Any bytes may be handed in as any of them, any numbers and switches as breakpoints;
-// every call answers. Beside them the version of the archive.
+// every call answers. Beside them the version of the archive. (`midesk_c` exports them.)
 #![tactic(auto)]
 
 ghost use Rattle.std.specs.Prelude.{◌≡◌, length, ◌≤◌};
@@ -13,8 +13,7 @@ use layout::STATE_BYTES;
 use machine::{RealAddress, StepAnswer, VirtualAddress};
 
 // A fresh desk over this memory, into state. Answers the number of the refusal, or 0.
-#[unsafe(no_mangle)]
-pub extern "C" fn midesk_fresh(
+pub fn midesk_fresh(
     mem: &[u8],
     system: u32,
     control: u32,
@@ -50,8 +49,7 @@ fn step_code(a: StepAnswer) -> u64
 }
 
 // One step.
-#[unsafe(no_mangle)]
-pub extern "C" fn midesk_step(mem: &mut [u8], state: &mut [u8; STATE_BYTES]) -> u64
+pub fn midesk_step(mem: &mut [u8], state: &mut [u8; STATE_BYTES]) -> u64
     ensures { record { answer = result; state = state.new; memory = mem.new }
         ≡ step_call state.old mem.old }
 {
@@ -63,13 +61,7 @@ pub extern "C" fn midesk_step(mem: &mut [u8], state: &mut [u8; STATE_BYTES]) -> 
 }
 
 // At most n steps; how many it made goes into steps. Answers the number of the refusal, or 0.
-#[unsafe(no_mangle)]
-pub extern "C" fn midesk_run(
-    mem: &mut [u8],
-    state: &mut [u8; STATE_BYTES],
-    n: u64,
-    steps: &mut u64,
-) -> u32
+pub fn midesk_run(mem: &mut [u8], state: &mut [u8; STATE_BYTES], n: u64, steps: &mut u64) -> u32
     ensures { record
         { answer = result; steps = steps.new; state = state.new; memory = mem.new }
         ≡ run_call n state.old mem.old }
@@ -140,8 +132,7 @@ fn run_to_code(u: Unplaced, f: Found) -> u64
 
 // At most n steps, up to a stop or a breakpoint of the list; how many it made goes into steps. Answers
 // what it came to: its kind times 2^32, and its number.
-#[unsafe(no_mangle)]
-pub extern "C" fn midesk_run_to(
+pub fn midesk_run_to(
     mem: &mut [u8],
     state: &mut [u8; STATE_BYTES],
     n: u64,
@@ -160,8 +151,7 @@ pub extern "C" fn midesk_run_to(
 }
 
 // An interrupt level is requested. Answers the number of the refusal, or 0.
-#[unsafe(no_mangle)]
-pub extern "C" fn midesk_request(state: &mut [u8; STATE_BYTES], level: u32) -> u32
+pub fn midesk_request(state: &mut [u8; STATE_BYTES], level: u32) -> u32
     ensures { record { answer = result; state = state.new } ≡ request_call state.old level }
 {
     let r = desk::request(layout::unpack(*state), level);
@@ -172,8 +162,7 @@ pub extern "C" fn midesk_request(state: &mut [u8; STATE_BYTES], level: u32) -> u
 }
 
 // Loads a list into this memory. Answers the number of the refusal, or 0.
-#[unsafe(no_mangle)]
-pub extern "C" fn midesk_load(mem: &mut [u8], list: &[u8]) -> u32
+pub fn midesk_load(mem: &mut [u8], list: &[u8]) -> u32
     ensures { record { answer = result; memory = mem.new }
         ≡ load_call mem.old list.now }
 {
@@ -183,13 +172,7 @@ pub extern "C" fn midesk_load(mem: &mut [u8], list: &[u8]) -> u32
 
 // Loads two lists into this memory, with a scratch at least as long as it. Answers the number of the
 // refusal, or 0.
-#[unsafe(no_mangle)]
-pub extern "C" fn midesk_load_both(
-    mem: &mut [u8],
-    first: &[u8],
-    second: &[u8],
-    scratch: &mut [u8],
-) -> u32
+pub fn midesk_load_both(mem: &mut [u8], first: &[u8], second: &[u8], scratch: &mut [u8]) -> u32
     ensures { record { answer = result; memory = mem.new; scratch = scratch.new }
         ≡ load_both_call mem.old first.now second.now scratch.old }
 {
@@ -198,8 +181,7 @@ pub extern "C" fn midesk_load_both(
 }
 
 // The version of the archive: major, minor and patch in a byte each, patch lowest.
-#[unsafe(no_mangle)]
-pub extern "C" fn midesk_version() -> u32
+pub fn midesk_version() -> u32
     ensures { result ≡ version }
 {
     0x03_02_02
