@@ -107,7 +107,7 @@ fn name(rest: &str) -> String {
     let part = first_part(rest);
     let plain: String = part.chars().map(|c| if "()".contains(c) { ' ' } else { c }).collect();
     let word = plain.split_whitespace().rfind(|word| Size::of_letter(word).is_none()).expect("a name");
-    if word == "systemCall" {
+    if word == "system_call" {
         "SYSTEM CALL".to_string()
     } else {
         word.to_string()
@@ -116,8 +116,8 @@ fn name(rest: &str) -> String {
 
 fn mode(rest: &str) -> Mode {
     match first_part(rest) {
-        part if part.contains("kernelOnly") => Mode::Kernel,
-        part if part.contains("userOnly") => Mode::User,
+        part if part.contains("kernel_only") => Mode::Kernel,
+        part if part.contains("user_only") => Mode::User,
         _ => Mode::Both,
     }
 }
