@@ -7,13 +7,13 @@ ghost use Rattle.machine.specs.Code.{DIV};
 ghost use Rattle.machine.specs.State.{flag_c, flag_n, flag_v, flag_z};
 ghost use Rattle.machine.specs.Words.{size_at};
 
-use machine::{Alarm, Result, Size};
+use machine::{Alarm, Fault, IntegerResult, Size};
 
 // What a command does with its operands' numbers.
 #[derive(Clone, Copy)]
 pub enum Action {
     // A result for the target.
-    Give(Size, Result),
+    Give(Size, IntegerResult),
     // New flags alone.
     Flags(u32),
     // A jump to the first number, taken or not.
@@ -25,7 +25,6 @@ pub enum Action {
     System,
     Halt,
     Resume,
-    Alarm(u32, Alarm),
 }
 
 // The size of a row's byte k. Arms for 0, 1 and 2, of which the compiler makes a table.
@@ -41,14 +40,16 @@ fn size_at(k: u32) -> Size
 }
 
 // 15: division by zero.
-fn divide(size: Size, a: u32, b: u32) -> Action
+fn divide(size: Size, a: u32, b: u32) -> Result<Action, Fault>
     ensures { result ≡ result_action DIV size a b }
 {
     if integers::low(size, a) == 0 {
-        return Action::Alarm(0, Alarm::Divide);
+        return Err(Fault {
+            alarm: Alarm::Divide,
+            argument: 0,
+        });
     }
-    let x = products::divide(size, a, b);
-    Action::Give(size, x)
+    Ok(Action::Give(size, products::divide(size, a, b)))
 }
 
 // The flags' bits.
@@ -78,11 +79,11 @@ pub fn flag_c(f: u32) -> bool
 
 // The operation of a command byte, from the flags and the first two operands' numbers; 12 for an
 // unknown byte.
-pub fn action_of(b: u32, f: u32, x: u32, y: u32) -> Action
+pub fn action_of(b: u32, f: u32, x: u32, y: u32) -> Result<Action, Fault>
     ensures { result ≡ action_of b f x y }
 {
     let s = size_at(b % 4);
-    match b {
+    let action = match b {
         0x00 => Action::Halt,
         0x01 => Action::Push,
         0x02 => Action::Pop,
@@ -100,7 +101,7 @@ pub fn action_of(b: u32, f: u32, x: u32, y: u32) -> Action
         0x40..=0x42 | 0x44..=0x46 => Action::Give(s, sums::add(s, x, y)),
         0x48..=0x4A | 0x4C..=0x4E => Action::Give(s, sums::subtract(s, x, y)),
         0x50..=0x52 | 0x54..=0x56 => Action::Give(s, products::multiply(s, x, y)),
-        0x58..=0x5A | 0x5C..=0x5E => divide(s, x, y),
+        0x58..=0x5A | 0x5C..=0x5E => return divide(s, x, y),
         0x60 => Action::Give(Size::W, shifts::shift(x, y)),
         0x61 => Action::Give(Size::W, shifts::rotate(x, y)),
         0x64..=0x66 => Action::Flags(sums::compare(s, x, y)),
@@ -115,6 +116,12 @@ pub fn action_of(b: u32, f: u32, x: u32, y: u32) -> Action
         0x78 => Action::Jump(flag_c(f)),
         0x79 => Action::Call,
         0x7A => Action::Return,
-        _ => Action::Alarm(b, Alarm::Command),
-    }
+        _ => {
+            return Err(Fault {
+                alarm: Alarm::Command,
+                argument: b,
+            });
+        }
+    };
+    Ok(action)
 }

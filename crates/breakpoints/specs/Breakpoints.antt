@@ -2,11 +2,9 @@
 -- switch for armed. .. an armed point equals R15 .. the place, from 0, of the first such point in the
 -- list." The field's word for such a point is breakpoint. The types are those of src/lib.rt. A list is lent for
 -- reading alone, so that none is handed back: "The list isn't altered."
-use Rattle.std.specs.Prelude.{ℕ, suc, Bool, true, false, ◌&&◌, List, [], ◌∷◌, eqb, leb, length}
+use Rattle.std.specs.Prelude.{ℕ, suc, Bool, false, ◌&&◌, List, [], ◌∷◌, eqb, leb, length, Option, Some, None}
 use Rattle.machine.specs.Words.{pick}
 use Rattle.breakpoints.specs.declared.Breakpoint.{Breakpoint}
-use Rattle.breakpoints.specs.declared.Found.{Found}
-use Rattle.breakpoints.specs.declared.Found.TheVariants.{At, Nowhere}
 
 -- one that holds no run
 abbrev pub unarmed : Breakpoint
@@ -16,18 +14,13 @@ unarmed = record { r15 = record { 0 = 0 }; armed = false }
 abbrev pub holds_at : ℕ → Breakpoint → Bool
 holds_at r15 p = p.armed && eqb p.r15.0 r15
 
--- whether a search has found one
-abbrev pub is_at : Found → Bool
-is_at (At i) = true
-is_at Nowhere = false
-
--- the first that holds, the place of the list's first one being k
-unfoldable pub first_from : ℕ → ℕ → List Breakpoint → Found
-first_from r15 k [] = Nowhere
-first_from r15 k (p ∷ ps) = pick (holds_at r15 p) (At k) (first_from r15 (suc k) ps)
+-- the place of the first that holds, that of the list's first one being k; none holds
+unfoldable pub first_from : ℕ → ℕ → List Breakpoint → Option ℕ
+first_from r15 k [] = None
+first_from r15 k (p ∷ ps) = pick (holds_at r15 p) (Some k) (first_from r15 (suc k) ps)
 
 -- "the place, from 0, of the first such point in the list"
-unfoldable pub first_armed : ℕ → List Breakpoint → Found
+unfoldable pub first_armed : ℕ → List Breakpoint → Option ℕ
 first_armed r15 ps = first_from r15 0 ps
 
 -- a list has at most so many points

@@ -1,13 +1,17 @@
 // Breakpoints: a lent list of them, each an R15 value and whether it is armed.
 #![tactic(auto)]
 
-ghost use Rattle.std.specs.Prelude.{◌≡◌, min, take};
-ghost use Rattle.breakpoints.specs.Breakpoints.{most, first_armed};
+ghost use Rattle.std.specs.Prelude.{◌≡◌, take, position};
+ghost use Rattle.breakpoints.specs.Breakpoints.{most, holds_at, first_armed};
 ghost use Rattle.breakpoints.specs.RunTo.{run_to_answer_number, run_to_refusal_number};
-ghost use Rattle.breakpoints.specs.Gathered.{Gathers, placed_reply, with_one};
+ghost use Rattle.breakpoints.specs.Gathered.{added, Gathers, placed_reply, with_one};
+ghost use Rattle.breakpoints.specs.declared.RunToRefusal.TheVariants.{Run};
 ghost use Rattle.machine.specs.State.{reg};
 
+pub use armed::Armed;
 use machine::{Desk, Refusal, VirtualAddress};
+
+mod armed;
 
 // A list has at most so many breakpoints.
 pub const MOST: usize = 64;
@@ -21,109 +25,83 @@ pub struct Breakpoint {
     pub armed: bool,
 }
 
-// The place of a breakpoint in its list, from 0; or it has none.
-#[derive(Clone, Copy)]
-pub enum Found {
-    At(usize),
-    Nowhere,
-}
-
 // Why a run with breakpoints is refused: numbers 1 to 5 and 7 as a run's, and 20.
-#[derive(Clone, Copy)]
+#[derive(Clone, Copy, Debug, PartialEq, Eq)]
 pub enum RunToRefusal {
     Run(Refusal),
     Breakpoints,
 }
 
-// What a run with breakpoints came to: refused; ended as a run ends, after all steps or by a stop; or
-// held before a command, with the place of the breakpoint.
-#[derive(Clone, Copy)]
-pub enum RunToAnswer {
-    Refused(RunToRefusal),
-    Ended,
-    Held(usize),
-}
-
-// What such a run hands back: steps counts those that it made.
+// What a run with breakpoints hands back. It was refused; or it ended as a run ends, after all steps or
+// by a stop; or it was held before a command, by the breakpoint in that place of the list, from 0. Steps
+// counts those that it made.
 #[derive(Clone, Copy)]
 pub struct RunToReply {
-    pub answer: RunToAnswer,
+    pub answer: Result<Option<usize>, RunToRefusal>,
     pub steps: u64,
     pub desk: Desk,
 }
 
-impl RunToRefusal {
-    // Its number in documents 01 and 02.
-    pub fn number(self) -> u32
-        ensures { result ≡ run_to_refusal_number self }
-    {
-        match self {
-            RunToRefusal::Run(k) => k.number(),
+impl From<Refusal> for RunToRefusal {
+    ghost from_gives = { λ k r. r ≡ Run k };
+
+    fn from(refusal: Refusal) -> RunToRefusal {
+        RunToRefusal::Run(refusal)
+    }
+}
+
+// The number of a refusal in documents 01 and 02.
+impl From<RunToRefusal> for u32 {
+    ghost from_gives = { λ k n. n ≡ run_to_refusal_number k };
+
+    fn from(refusal: RunToRefusal) -> u32 {
+        match refusal {
+            RunToRefusal::Run(k) => u32::from(k),
             RunToRefusal::Breakpoints => 20,
         }
     }
 }
 
-impl RunToAnswer {
-    // The number of its refusal, or the place of the breakpoint that held the run; 0 where it ended
-    // otherwise. The case tells which.
-    pub fn number(self) -> u64
-        ensures { result ≡ run_to_answer_number self }
-    {
-        match self {
-            RunToAnswer::Refused(k) => k.number() as u64,
-            RunToAnswer::Ended => 0,
-            RunToAnswer::Held(place) => place as u64,
-        }
+// The number of a refusal, or the place of the breakpoint that held the run; 0 where it ended otherwise.
+// The case tells which.
+pub fn run_to_answer_number(answer: Result<Option<usize>, RunToRefusal>) -> u64
+    ensures { result ≡ run_to_answer_number answer }
+{
+    match answer {
+        Ok(None) => 0,
+        Ok(Some(place)) => place as u64,
+        Err(refusal) => u64::from(u32::from(refusal)),
     }
 }
 
-// How many of a list's breakpoints are looked at: a list that has more is refused.
-fn looked_at(length: usize) -> usize
-    ensures { result ≡ min most length }
-{
-    if length < MOST { length } else { MOST }
-}
-
-// The first armed breakpoint at R15, of those that are looked at.
-pub fn first_armed(points: &[Breakpoint], r15: u32) -> Found
+// The place of the first armed breakpoint at R15. Of a list that has more than 64, which is refused, only
+// the first ones are looked at.
+pub fn first_armed(points: &[Breakpoint], r15: u32) -> Option<usize>
     ensures { result ≡ first_armed r15 (take most points.now) }
 {
-    let n = looked_at(points.len());
-    let mut i = 0usize;
-    while i < n {
-        let p = points[i];
-        if p.armed & (p.r15.0 == r15) {
-            return Found::At(i);
-        }
-        i += 1usize;
-    }
-    Found::Nowhere
+    position(points, r15)
 }
 
-// The addresses of the armed breakpoints of a list, in its order, and how many the list has.
-#[derive(Clone, Copy)]
-pub struct Armed {
-    pub addresses: [u32; MOST],
-    pub count: usize,
-    pub length: usize,
+// The same in the words of the iterators' contracts.
+fn position(points: &[Breakpoint], r15: u32) -> Option<usize>
+    ensures { result ≡ position (holds_at r15) (take most points.now) }
+{
+    points
+        .iter()
+        .take(MOST)
+        .position(|p| p.armed && p.r15.0 == r15)
 }
 
 // The address of an armed breakpoint is added, where there is room.
-pub fn with_one(a: Armed, p: Breakpoint) -> Armed
-    ensures { result ≡ with_one a p }
+pub fn with_one(mut a: Armed, p: Breakpoint) -> Armed
+    ensures added { added result ≡ with_one (added a) p }
+    ensures same_length { result.length ≡ a.length }
 {
-    let at = a.count;
-    if !p.armed {
-        return a;
+    if p.armed && a.count < MOST {
+        a.addresses[a.count] = p.r15.0;
+        a.count += 1;
     }
-    if MOST <= at {
-        return a;
-    }
-    let mut b = a;
-    b.addresses[at] = p.r15.0;
-    b.count = at + 1usize;
-    b
+    a
 }
 
 // The armed breakpoints of a list, of those that are looked at, and the whole list's length.
@@ -131,15 +109,12 @@ pub fn gather(points: &[Breakpoint]) -> Armed
     ensures { Gathers result points.now }
 {
     let mut a = Armed {
-        addresses: [0u32; MOST],
-        count: 0usize,
+        addresses: [0; MOST],
+        count: 0,
         length: points.len(),
     };
-    let n = looked_at(points.len());
-    let mut i = 0usize;
-    while i < n {
-        a = with_one(a, points[i]);
-        i += 1usize;
+    for p in points.iter().take(MOST) {
+        a = with_one(a, *p);
     }
     a
 }
@@ -150,30 +125,19 @@ pub fn gather(points: &[Breakpoint]) -> Armed
 pub fn r15_after(r: RunToReply) -> u32
     ensures { result ≡ reg r.desk.registers 15 }
 {
-    let registers = r.desk.registers;
-    registers[15]
+    r.desk.registers[15]
 }
 
 // The reply with the place of the breakpoint that was found.
-pub fn placed(r: RunToReply, f: Found) -> RunToReply
-    ensures { result ≡ placed_reply r f }
+pub fn placed(r: RunToReply, found: Option<usize>) -> RunToReply
+    ensures { result ≡ placed_reply r found }
 {
-    let answer = r.answer;
-    let desk = r.desk;
-    match answer {
-        RunToAnswer::Held(_) => {}
-        _ => return r,
-    }
-    match f {
-        Found::At(place) => RunToReply {
-            answer: RunToAnswer::Held(place),
-            steps: r.steps,
-            desk,
+    match r.answer {
+        Ok(Some(_)) => RunToReply {
+            answer: Ok(found),
+            ..r
         },
-        Found::Nowhere => RunToReply {
-            answer: RunToAnswer::Ended,
-            steps: r.steps,
-            desk,
-        },
+        Ok(None) => r,
+        Err(_) => r,
     }
 }

@@ -1,8 +1,8 @@
 // What the desk and the model differ in first.
+use std::fmt;
 
-#[derive(Clone, Copy)]
+#[derive(Clone, Copy, Debug, PartialEq, Eq)]
 pub enum Difference {
-    Nothing,
     Refusal,
     Event,
     Cause,
@@ -21,26 +21,37 @@ pub enum Difference {
     Format,
 }
 
-// The difference of a case, at a call counted from 1, or 0 where it belongs to no call.
-#[derive(Clone, Copy)]
+// The difference of a case, and the call that it belongs to, counted from 1.
+#[derive(Clone, Copy, Debug, PartialEq, Eq)]
 pub struct Verdict {
     pub what: Difference,
-    pub call: u64,
+    pub call: Option<u64>,
 }
 
-impl Difference {
-    pub fn is_nothing(self) -> bool {
-        match self {
-            Difference::Nothing => true,
-            _ => false,
-        }
+impl fmt::Display for Difference {
+    fn fmt<W: fmt::Write>(&self, f: &mut fmt::Formatter<W>) -> fmt::Result {
+        f.write_str(match self {
+            Difference::Refusal => "refusal",
+            Difference::Event => "event",
+            Difference::Cause => "cause",
+            Difference::StopNumber => "stop number",
+            Difference::Saved => "saved words",
+            Difference::Count => "count",
+            Difference::Hold => "hold",
+            Difference::State => "state",
+            Difference::Memory => "memory",
+            Difference::Scratch => "scratch",
+            Difference::Format => "format",
+        })
     }
+}
 
-    // This difference, or where there is none the later one.
-    pub fn or(self, later: Difference) -> Difference {
-        match self {
-            Difference::Nothing => later,
-            _ => self,
+impl fmt::Display for Verdict {
+    fn fmt<W: fmt::Write>(&self, f: &mut fmt::Formatter<W>) -> fmt::Result {
+        let what = self.what;
+        match self.call {
+            Some(call) => write!(f, "call {call}: {what}"),
+            None => write!(f, "{what}"),
         }
     }
 }

@@ -1,55 +1,70 @@
-// The fields of a case: numbers, highest byte first, at positions of a slice. Beyond its end bytes
-// are 0, parts empty, and positions NOWHERE.
-ghost use Rattle.std.specs.Prelude.{◌≤◌};
+// The fields of a case, read one after another: numbers, highest byte first, and parts. Where the
+// bytes end, the missing ones are 0 and a part is empty.
 
-const NOWHERE: usize = usize::MAX;
-
-// The position n bytes on.
-pub fn past(s: &[u8], at: usize, n: usize) -> usize {
-    if s.len() < at {
-        return NOWHERE;
-    }
-    if s.len() - at < n {
-        return NOWHERE;
-    }
-    at + n
+// The bytes that are left, and whether a field wanted more of them than were left.
+#[derive(Clone, Copy)]
+pub struct Fields<'a> {
+    rest: &'a [u8],
+    cut: bool,
 }
 
-// The n bytes at a position.
-pub fn part(s: &[u8], at: usize, n: usize) -> &[u8] {
-    if s.len() < at {
-        return &s[..0];
+impl<'a> Fields<'a> {
+    pub fn new(bytes: &'a [u8]) -> Fields<'a> {
+        Fields {
+            rest: bytes,
+            cut: false,
+        }
     }
-    if s.len() - at < n {
-        return &s[..0];
+
+    // Whether no byte is left.
+    pub fn is_empty(&self) -> bool {
+        self.rest.is_empty()
     }
-    let end = at + n;
-    &s[at..end]
-}
 
-pub fn byte_at(s: &[u8], at: usize) -> u8 {
-    if at < s.len() {
-        return s[at];
+    // Whether the fields were just as long as the bytes.
+    pub fn is_filled(&self) -> bool {
+        self.rest.is_empty() && !self.cut
     }
-    0
-}
 
-pub fn wide(b: u8) -> u32
-    ensures { result ≤ 255 }
-{
-    b as u32
-}
+    // The next n bytes.
+    pub fn part(&mut self, n: usize) -> &'a [u8] {
+        match self.rest.split_at_checked(n) {
+            Some((part, rest)) => {
+                self.rest = rest;
+                part
+            }
+            None => {
+                self.rest = &[];
+                self.cut = true;
+                &[]
+            }
+        }
+    }
 
-pub fn half_at(s: &[u8], at: usize) -> u32
-    ensures { result ≤ 65535 }
-{
-    let high = wide(byte_at(s, at));
-    let low = wide(byte_at(s, past(s, at, 1)));
-    high * 256 + low
-}
+    pub fn byte(&mut self) -> u8 {
+        match self.rest.split_first() {
+            Some((byte, rest)) => {
+                self.rest = rest;
+                *byte
+            }
+            None => {
+                self.cut = true;
+                0
+            }
+        }
+    }
 
-pub fn word_at(s: &[u8], at: usize) -> u32 {
-    let high = half_at(s, at);
-    let low = half_at(s, past(s, at, 2));
-    high * 65536 + low
+    pub fn half(&mut self) -> u16 {
+        u16::from_be_bytes([self.byte(), self.byte()])
+    }
+
+    pub fn word(&mut self) -> u32 {
+        u32::from_be_bytes([self.byte(), self.byte(), self.byte(), self.byte()])
+    }
+
+    // u32 length, and as many bytes.
+    pub fn list(&mut self) -> &'a [u8] {
+        let n = self.word() as usize;
+        self.part(n)
+    }
 }

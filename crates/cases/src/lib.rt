@@ -9,17 +9,16 @@ pub mod fields;
 pub mod memory;
 pub mod snapshot;
 
-use fields::{part, word_at};
-use memory::same_bytes;
+use fields::Fields;
 
 // The bytes before the first case.
 pub const HEADER: usize = 24;
 
-// Whether these are the bytes before the first case.
-pub fn is_header(s: &[u8]) -> bool {
-    s.len() == HEADER && same_bytes(part(s, 0, 8), b"MIDESK01")
-}
-
-pub fn number_of_cases(header: &[u8]) -> u64 {
-    word_at(header, 8) as u64
+// The number of cases that the bytes before the first case give, if they are such bytes.
+pub fn number_of_cases(header: &[u8; HEADER]) -> Option<u64> {
+    if !header.starts_with(b"MIDESK01") {
+        return None;
+    }
+    let n = Fields::new(&header[8..]).word();
+    Some(u64::from(n))
 }

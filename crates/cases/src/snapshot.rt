@@ -7,9 +7,7 @@
 //     20, 21    system block, control block
 //     22, 23    0 and 0 for running; 1 and the number for stopped
 //     24 to 31  not used: 0
-ghost use Rattle.std.specs.Prelude.{◌≤◌};
-
-use crate::fields::{past, word_at};
+use crate::fields::Fields;
 use machine::{Desk, Map, Mark, RealAddress};
 
 pub const WORDS: usize = 32;
@@ -19,58 +17,32 @@ pub const SAVED: usize = 18;
 
 pub type Words = [u32; WORDS];
 
-// Words that fields gave, and the position after the fields.
-#[derive(Clone, Copy)]
-pub struct Stored {
-    pub at: usize,
-    pub words: Words,
-}
-
-pub fn no_words() -> Words {
-    [0u32; WORDS]
-}
-
 // Changes of words: a mask, then the new value of each word whose bit is set, from bit 0 upward.
-pub fn changed(s: &[u8], from: usize, old: Words) -> Stored {
+pub fn changed(fields: &mut Fields, old: Words) -> Words {
     let mut words = old;
-    let mut mask = word_at(s, from);
-    let mut at = past(s, from, 4);
-    let mut i: usize = 0;
-    while i < WORDS {
+    let mut mask = fields.word();
+    for word in words.iter_mut() {
         if mask % 2 == 1 {
-            words[i] = word_at(s, at);
-            at = past(s, at, 4);
+            *word = fields.word();
         }
-        mask = mask / 2;
-        i += 1;
+        mask /= 2;
     }
-    Stored { at, words }
-}
-
-fn copy_words(to: &mut [u32], from: &[u32]) {
-    let mut i: usize = 0;
-    while i < to.len() && i < from.len() {
-        to[i] = from[i];
-        i += 1;
-    }
-}
-
-fn mark_of(stopped: u32, n: u32) -> Mark {
-    if stopped == 0 {
-        return Mark::Running;
-    }
-    Mark::Stopped(n)
+    words
 }
 
 pub fn desk_of(w: Words) -> Desk {
     let mut registers = [0u32; 16];
-    copy_words(&mut registers, &w);
-    let mark = mark_of(w[22], w[23]);
+    registers.copy_from_slice(&w[..16]);
+    let pending = (w[17] % 65536) as u16;
     let map = Map {
         base: RealAddress(w[18]),
         length: w[19],
     };
-    let pending = (w[17] % 65536) as u16;
+    let mark = if w[22] == 0 {
+        Mark::Running
+    } else {
+        Mark::Stopped(w[23])
+    };
     state::new(
         registers,
         w[16],
@@ -82,55 +54,20 @@ pub fn desk_of(w: Words) -> Desk {
     )
 }
 
-fn stopped(m: Mark) -> u32 {
-    match m {
-        Mark::Running => 0,
-        Mark::Stopped(_) => 1,
-    }
-}
-
-fn stop_number(m: Mark) -> u32 {
-    match m {
-        Mark::Running => 0,
-        Mark::Stopped(n) => n,
-    }
-}
-
 pub fn words_of(d: Desk) -> Words {
-    let registers = d.registers;
-    let mark = d.mark;
-    let mut w = no_words();
-    copy_words(&mut w, &registers);
+    let mut w = [0u32; WORDS];
+    w[..16].copy_from_slice(&d.registers);
     w[16] = d.status;
-    w[17] = d.pending as u32;
-    let map = d.map;
-    let base = map.base;
-    w[18] = base.0;
-    w[19] = map.length;
+    w[17] = u32::from(d.pending);
+    w[18] = d.map.base.0;
+    w[19] = d.map.length;
     w[20] = d.system.0;
     w[21] = d.control.0;
-    w[22] = stopped(mark);
-    w[23] = stop_number(mark);
+    (w[22], w[23]) = match d.mark {
+        Mark::Running => (0, 0),
+        Mark::Stopped(n) => (1, n),
+    };
     w
-}
-
-// Where the control block is.
-pub fn control_of(w: Words) -> usize {
-    w[21] as usize
-}
-
-// Whether the first n words are the same.
-pub fn same_words(a: Words, b: Words, n: usize) -> bool
-    requires { n ≤ 32 }
-{
-    let mut i: usize = 0;
-    while i < n {
-        if a[i] != b[i] {
-            return false;
-        }
-        i += 1;
-    }
-    true
 }
 
 // What the words that an entry saves are stored as changes of: registers and status before the
@@ -141,15 +78,13 @@ pub fn unsaved(w: Words) -> Words {
     words
 }
 
-// The words that an entry saved at the start of a control block.
-pub fn saved_at(mem: &[u8], control: usize) -> Words {
-    let mut words = no_words();
-    let mut at = control;
-    let mut i: usize = 0;
-    while i < SAVED {
-        words[i] = word_at(mem, at);
-        at = past(mem, at, 4);
-        i += 1;
+// The words that an entry saved at the start of the control block.
+pub fn saved_in(mem: &[u8], w: Words) -> Words {
+    let block = mem.get(w[21] as usize..).unwrap_or(&[]);
+    let mut fields = Fields::new(block);
+    let mut words = [0u32; WORDS];
+    for word in words.iter_mut().take(SAVED) {
+        *word = fields.word();
     }
     words
 }

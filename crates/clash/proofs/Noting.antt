@@ -4,17 +4,16 @@ use Prim.Native.Nat.{ℕ, suc, ◌+◌, ◌%◌, ◌<◌}
 use mathlib.Core.Path.{◌≡◌, refl, sym, ◌∙◌, ap}
 use mathlib.Core.Bool.{Bool, true, false, ◌||◌}
 use mathlib.Core.List.{List, [], ◌∷◌, ◌++◌}
-use mathlib.Core.Option.{Option, none, some}
 use native.Mathlib.Decide.{ℕ_discrete}
 use native.Mathlib.Omega.{arith}
 use borrow.Author.Tests.{ltb-true, eq-eqb, ne_eqb}
 use lib.Dec.{ltb, eqb}
 use lib.ListN.{length, set, length-set, replicate, drop, get_or}
 use lib.Seq.{drop-cons, drop-length, get_or-set_same, get_or-set_other}
+use Rattle.std.specs.Prelude.{Option, Some, None, Ok}
 use Rattle.machine.specs.Words.{pick, byte_at}
 use Rattle.machine.specs.Map.{RealWrites, real_writes_from}
 use Rattle.lists.specs.declared.Command.{Command}
-use Rattle.lists.specs.declared.Next.TheVariants.{More}
 use Rattle.lists.specs.Lists.{width_of, next_at, put_bytes, place_after, later_or, last_put}
 use Rattle.lists.specs.Refusals.{all_inside}
 use Rattle.lists.proofs.Reading.{rest_from}
@@ -81,7 +80,7 @@ module _ (h : Half) (t : Turn) where
   none-noted bs i a s e = rw (← e, drop-length)
 
   -- a command of a list, and what is left behind it
-  pub more-noted : (list : List ℕ) (at : ℕ) (c : Command) → next_at list at ≡ More c → (n place : ℕ) (s : List ℕ)
+  pub more-noted : (list : List ℕ) (at : ℕ) (c : Command) → next_at list at ≡ Ok (Some c) → (n place : ℕ) (s : List ℕ)
       → sound_from n place (rest_from list at) ≡ true
       → noted h t (left_from list place at) s
       ≡ noted h t (left_from list (place_after place c) (at + width_of c))
@@ -92,19 +91,19 @@ module _ (h : Half) (t : Turn) where
 
   -- the note after the last put there, if there is one
   abbrev pub after_last : Option ℕ → ℕ → ℕ
-  after_last none x = x
-  after_last (some b) x = note_of t x (half_of h b)
+  after_last None x = x
+  after_last (Some b) x = note_of t x (half_of h b)
 
   one_more : (s : List ℕ) (i x a : ℕ) (o : Option ℕ) → i < length s → Dec (i ≡ a)
       → after_last o (byte_at (set s i (note_of t (byte_at s i) (half_of h x))) a)
-      ≡ after_last (later_or o (pick (eqb i a) (some x) none)) (byte_at s a)
-  one_more s i x a none l (yes e) = rw (eq-eqb i a e, ← e) (get_or-set_same s i _ 0 l)
-  one_more s i x a none l (no e) = rw (ne_eqb i a e) (get_or-set_other s i a _ 0 (λ q. e (sym q)))
-  one_more s i x a (some b) l (yes e) =
+      ≡ after_last (later_or o (pick (eqb i a) (Some x) None)) (byte_at s a)
+  one_more s i x a None l (yes e) = rw (eq-eqb i a e, ← e) (get_or-set_same s i _ 0 l)
+  one_more s i x a None l (no e) = rw (ne_eqb i a e) (get_or-set_other s i a _ 0 (λ q. e (sym q)))
+  one_more s i x a (Some b) l (yes e) =
       rw (← e)
       (ap (λ (z : ℕ). note_of t z (half_of h b)) (get_or-set_same s i _ 0 l)
       ∙ note_again t (byte_at s i) (half_of h x) (half_of h b))
-  one_more s i x a (some b) l (no e) =
+  one_more s i x a (Some b) l (no e) =
       ap (λ (z : ℕ). note_of t z (half_of h b)) (get_or-set_other s i a _ 0 (λ q. e (sym q)))
 
   pub noted_last : (ws : RealWrites) (s : List ℕ) (a : ℕ) → all_inside (length s) ws ≡ true

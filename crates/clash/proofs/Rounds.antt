@@ -4,7 +4,7 @@ use Prim.Native.Nat.{ℕ, zero, suc, ◌+◌, ◌/◌, ◌%◌, ◌≤◌, ◌<�
 use mathlib.Core.Path.{◌≡◌, refl, sym, ◌∙◌, ap}
 use mathlib.Core.Bool.{Bool, true, false, not, ◌&&◌, ◌||◌}
 use mathlib.Core.List.{List, ◌∷◌, ◌++◌, append-nil}
-use mathlib.Core.Option.{Option, none, some}
+use Rattle.std.specs.Prelude.{Option, Some, None}
 use native.Mathlib.Decide.{ℕ_discrete}
 use native.Mathlib.Omega.{arith}
 use borrow.Author.Tests.{le-leb, lt-leb, eq-eqb, ne_eqb}
@@ -42,10 +42,10 @@ halves_equal b c = go (ℕ_discrete (b / 16) (c / 16)) (ℕ_discrete (b % 16) (c
     go (no e) f = rw (ne_eqb _ _ e) (ne_eqb b c (λ q. e (ap (λ (z : ℕ). z / 16) q)))
 
 same_halves : (x y : Option ℕ) → same_last x y ≡ (same_half High x y && same_half Low x y)
-same_halves (some b) (some c) = halves_equal b c
-same_halves (some b) none = refl
-same_halves none (some c) = refl
-same_halves none none = refl
+same_halves (Some b) (Some c) = halves_equal b c
+same_halves (Some b) None = refl
+same_halves None (Some c) = refl
+same_halves None None = refl
 
 regroup : (a b c d : Bool) → ((a && b) && (c && d)) ≡ ((a && c) && (b && d))
 regroup true true c d = refl
@@ -100,13 +100,13 @@ compared-told v w l = rw small (go (ℕ_discrete v w))
         (le-leb 32 (v + 1 + 32) (omega arith))
 
 -- of the last bytes that two lists put at an address
-told : (h : Half) (x y : Option ℕ) → ((b : ℕ) → x ≡ some b → b < 256)
+told : (h : Half) (x y : Option ℕ) → ((b : ℕ) → x ≡ Some b → b < 256)
     → leb 32 (after_last h Second y (after_last h First x 0)) ≡ not (same_half h x y)
 unfolding compared
-told h none none small = refl
-told h none (some c) small = refl
-told h (some b) none small = lt-leb 32 (half_of h b + 1) (omega (arith, half_small h b (small b refl)))
-told h (some b) (some c) small = compared-told (half_of h b) (half_of h c) (half_small h b (small b refl))
+told h None None small = refl
+told h None (Some c) small = refl
+told h (Some b) None small = lt-leb 32 (half_of h b + 1) (omega (arith, half_small h b (small b refl)))
+told h (Some b) (Some c) small = compared-told (half_of h b) (half_of h c) (half_small h b (small b refl))
 
 not_and : (a b : Bool) → (not a || not b) ≡ not (a && b)
 not_and true b = refl
@@ -148,7 +148,7 @@ zero_byte (suc n) (suc a) = zero_byte n a
 
 -- both lists noted on zeros
 pub round_told : (h : Half) (n : ℕ) (x y : RealWrites)
-    → ((a b : ℕ) → last_put a x ≡ some b → b < 256) → all_inside n x ≡ true → all_inside n y ≡ true
+    → ((a b : ℕ) → last_put a x ≡ Some b → b < 256) → all_inside n x ≡ true → all_inside n y ≡ true
     → found_below n (noted h Second y (noted h First x (replicate n 0))) ≡ not (agree_by h n x y)
 round_told h n x y small i j = found_told h x y _ at_each n
   where

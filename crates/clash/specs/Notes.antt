@@ -2,7 +2,7 @@
 -- the low halves. A note is 0 where the first list puts nothing, else one more than the half that it puts
 -- there last; and 32 more where the second list puts another half there last.
 use Rattle.std.specs.Prelude.{ℕ, zero, suc, ◌+◌, ◌/◌, ◌%◌, Bool, true, false, ◌&&◌, ◌||◌, List, [], ◌∷◌, leb, eqb, set}
-use Rattle.std.proofs.Math.Option.{Option, none, some}
+use Rattle.std.specs.Prelude.{Option, Some, None}
 use Rattle.machine.specs.Words.{pick, byte_at}
 use Rattle.machine.specs.Map.{RealWrites}
 use Rattle.lists.specs.Lists.{last_put}
@@ -17,9 +17,9 @@ half_of Low b = b % 16
 
 -- of the two lists' last bytes at an address: whether they have this half in common
 abbrev pub same_half : Half → Option ℕ → Option ℕ → Bool
-same_half h (some b) (some c) = eqb (half_of h b) (half_of h c)
-same_half h (some b) none = true
-same_half h none x = true
+same_half h (Some b) (Some c) = eqb (half_of h b) (half_of h c)
+same_half h (Some b) None = true
+same_half h None x = true
 
 -- at every address below n
 unfoldable pub agree_by : Half → ℕ → RealWrites → RealWrites → Bool

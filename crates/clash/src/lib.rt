@@ -10,7 +10,7 @@ ghost use Rattle.machine.specs.Map.{real_writes_from};
 ghost use Rattle.clash.specs.Clashes.{agree, cleared};
 ghost use Rattle.clash.specs.Notes.{agree_by, found_below, half_of, note_of, noted};
 
-use lists::{Command, Next};
+use lists::Command;
 use machine::RealAddress;
 
 // ---- Notes
@@ -76,10 +76,8 @@ fn note_bytes(scratch: &mut [u8], at: usize, bytes: &[u8], half: Half, turn: Tur
     ensures { scratch.new
         ≡ noted half turn (real_writes_from at bytes.now) scratch.old }
 {
-    let mut i: usize = 0;
-    while i < bytes.len() {
-        note_byte(scratch, at + i, bytes[i], half, turn);
-        i += 1;
+    for (i, byte) in bytes.iter().enumerate() {
+        note_byte(scratch, at + i, *byte, half, turn);
     }
 }
 
@@ -89,10 +87,8 @@ fn note_copies(scratch: &mut [u8], at: usize, count: usize, byte: u8, half: Half
     ensures { scratch.new
         ≡ noted half turn (real_writes_from at (replicate count byte)) scratch.old }
 {
-    let mut i: usize = 0;
-    while i < count {
+    for i in 0..count {
         note_byte(scratch, at + i, byte, half, turn);
-        i += 1;
     }
 }
 
@@ -109,8 +105,7 @@ fn note(scratch: &mut [u8], place: RealAddress, c: Command, half: Half, turn: Tu
             note_byte(scratch, at, b, half, turn);
         }
         Command::Four(a, b, c, d) => {
-            let bytes = [a, b, c, d];
-            note_bytes(scratch, at, &bytes, half, turn);
+            note_bytes(scratch, at, &[a, b, c, d], half, turn);
         }
         Command::Copies(count, b) => {
             note_copies(scratch, at, count as usize, b, half, turn);
@@ -125,21 +120,10 @@ fn note_all(scratch: &mut [u8], list: &[u8], half: Half, turn: Turn)
 {
     let mut at: usize = 0;
     let mut place = RealAddress(0);
-    loop {
-        let x = lists::next_at(list, at);
-        match x {
-            Next::More(c) => {
-                note(scratch, place, c, half, turn);
-                place = c.place_after(place);
-                at += c.width();
-            }
-            Next::End => {
-                return;
-            }
-            Next::Unreadable => {
-                return;
-            }
-        }
+    while let Ok(Some(c)) = lists::next_at(list, at) {
+        note(scratch, place, c, half, turn);
+        place = c.place_after(place);
+        at += c.width();
     }
 }
 
@@ -149,11 +133,9 @@ fn take_notes(scratch: &mut [u8]) -> bool
     ensures zeros { scratch.new ≡ cleared scratch.old }
 {
     let mut found = false;
-    let mut i: usize = 0;
-    while i < scratch.len() {
-        found = found | (32 <= scratch[i]);
-        scratch[i] = 0;
-        i += 1;
+    for note in scratch.iter_mut() {
+        found |= 32 <= *note;
+        *note = 0;
     }
     found
 }
@@ -184,10 +166,8 @@ fn bytes_differ(scratch: &mut [u8], first: &[u8], second: &[u8]) -> bool
         (puts_of first.now) (puts_of second.now)) }
     ensures zeros { scratch.new ≡ scratch.old }
 {
-    if halves_differ(scratch, first, second, Half::High) {
-        return true;
-    }
-    halves_differ(scratch, first, second, Half::Low)
+    halves_differ(scratch, first, second, Half::High)
+        || halves_differ(scratch, first, second, Half::Low)
 }
 
 // Whether the lists clash in a memory of n bytes. Clears the scratch, and works on as much of it as the

@@ -11,7 +11,7 @@ use Rattle.machine.specs.declared.Alarm.{Alarm}
 use Rattle.machine.specs.declared.Alarm.TheVariants as alarms
 use Rattle.machine.specs.declared.Access.TheVariants.{Fetch}
 use Rattle.machine.specs.declared.Size.{Size}
-use Rattle.machine.specs.declared.Result.{Result}
+use Rattle.machine.specs.declared.IntegerResult.{IntegerResult}
 use Rattle.machine.specs.Words.{pick, Memory, length_of}
 use Rattle.machine.specs.State.{Registers, reg, user_mode, flags_of}
 use Rattle.machine.specs.Alarms.{OrAlarm, got, alarm, ◌>>=◌}
@@ -25,7 +25,7 @@ use Rattle.machine.specs.Commands.{completion_of, float_command, command_by, use
 use Rattle.rules.specs.Rules.{known_rules, forbidden_of}
 use Rattle.actions.specs.Actions.{given, common_action, command_action, known_action, action_of}
 use Rattle.results.specs.Ends.{End, alarmed, done_end, end_in}
-use Rattle.commands.specs.Execution.{user_end, kernel_end, exec_of, action_end}
+use Rattle.commands.specs.Execution.{user_end, kernel_end, exec_of, action_end, asked_end}
 use Rattle.reads.proofs.Reading.{read-virtual}
 use Rattle.results.proofs.Ends.{same_status}
 use Rattle.commands.proofs.Modes.{forbids, forbids_known, forbids_byte}
@@ -41,15 +41,15 @@ module _ (s : ℕ) (m : Memory) (v : View) where
   kernel_done (got d) = refl
   kernel_done (alarm n x) = refl
 
-  result_end : (size : Size) (o : Operands) (t : OrAlarm Result)
-      → done_end s m v (t >>= (λ x. got (stored (length_of size) x o.target o.registers))) ≡ action_end s m v
+  result_end : (size : Size) (o : Operands) (t : OrAlarm IntegerResult)
+      → done_end s m v (t >>= (λ x. got (stored (length_of size) x o.target o.registers))) ≡ asked_end s m v
       o.registers o.first o.target (given size t)
   unfolding action_end
   result_end size o (got x) = refl
   result_end size o (alarm n x) = refl
 
   common_end : (o : Operands) (c : Common)
-      → done_end s m v (common_done c v (flags_of s) o) ≡ action_end s m v o.registers o.first o.target
+      → done_end s m v (common_done c v (flags_of s) o) ≡ asked_end s m v o.registers o.first o.target
       (common_action c (flags_of s) o.first o.second)
   unfolding action_end common_done located commit
   common_end o (result op size) =
@@ -95,7 +95,7 @@ module _ (s : ℕ) (m : Memory) (v : View) where
 
     action_end_lem : (u : Bool) (c : Command) (ks : List Rule) (o : Operands) → forbids u c ≡ false
         → operands_of v ks (past 1 r) ≡ got o
-        → fetched_end u (some (record { command = c; operands = ks })) ≡ action_end s m v o.registers o.first
+        → fetched_end u (some (record { command = c; operands = ks })) ≡ asked_end s m v o.registers o.first
         o.target (command_action c (flags_of s) o.first o.second)
     unfolding fetched_end known_or12 allowed_in_user_mode allowed_in_kernel_mode completion_of action_end user_effect kernel_effect
     action_end_lem true (common c) ks o h a = rw a (user_done (common_done c v (flags_of s) o) ∙ common_end o c)
@@ -118,7 +118,7 @@ module _ (s : ℕ) (m : Memory) (v : View) where
 
     action_known : (u : Bool) (k : Option Known) (o : Operands) → forbids_known u k ≡ false
         → operands_of v (known_rules k) (past 1 r) ≡ got o
-        → fetched_end u k ≡ action_end s m v o.registers o.first o.target
+        → fetched_end u k ≡ asked_end s m v o.registers o.first o.target
         (known_action k b (flags_of s) o.first o.second)
     unfolding fetched_end known_or12 action_end
     action_known true none o h a = refl
@@ -169,7 +169,7 @@ module _ (s : ℕ) (map : Map) (r : Registers) (m : Memory) where
           (forbids_byte (user_mode s) b (omega arith) ∙ f) (sym a))
 
       pub exec_action : (o : Operands) → got o ≡ operands_of (view_by s map m) (known_rules (known b)) (past 1 r)
-          → action_end s m (view_by s map m) o.registers o.first o.target
+          → asked_end s m (view_by s map m) o.registers o.first o.target
           (action_of b (flags_of s) o.first o.second) ≡ exec_of s map r m
       unfolding action_of
       exec_action o a =

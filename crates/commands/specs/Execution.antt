@@ -1,5 +1,5 @@
 -- The command at R15 and how it ends, in the terms of `machine`.
-use Rattle.std.specs.Prelude.{ℕ, [], set}
+use Rattle.std.specs.Prelude.{ℕ, [], set, Ok, Err}
 use Rattle.machine.specs.declared.Map.{Map}
 use Rattle.machine.specs.declared.Target.{Target}
 use Rattle.machine.specs.Words.{pick, Memory, length_of}
@@ -10,6 +10,7 @@ use Rattle.machine.specs.Commands.{stored, pushed, popped_done, called, returned
 use Rattle.machine.specs.Commands.{SystemCall, user_command, KernelEffect, halts, resumes, kernel_command}
 use Rattle.actions.specs.declared.Action.{Action}
 use Rattle.actions.specs.declared.Action.TheVariants as action
+use Rattle.actions.specs.Actions.{Asked}
 use Rattle.results.specs.Ends.{End, command_done, system_called, halted, resumed, alarmed, done_end}
 
 abbrev pub user_end : ℕ → Memory → View → OrAlarm (Completion SystemCall) → End
@@ -43,4 +44,8 @@ action_end s m v r x t action.Return = done_end s m v (returned_done v r (flags_
 action_end s m v r x t action.System = system_called x r m
 action_end s m v r x t action.Halt = halted r m
 action_end s m v r x t action.Resume = resumed (record { 0 = x }) m
-action_end s m v r x t (action.Alarm a k) = alarmed k a m
+
+-- the same of what the byte asks for, or of its alarm
+abbrev pub asked_end : ℕ → Memory → View → Registers → ℕ → Target → Asked → End
+asked_end s m v r x t (Ok a) = action_end s m v r x t a
+asked_end s m v r x t (Err e) = alarmed e.alarm e.argument m

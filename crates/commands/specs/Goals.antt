@@ -1,13 +1,14 @@
 -- What the operands of a command give, and where its result goes, in the terms of `machine`.
-use Rattle.std.specs.Prelude.{ℕ, ◌≡◌}
+use Rattle.std.specs.Prelude.{ℕ, ◌≡◌, Result, Ok, Err}
 use Rattle.machine.specs.declared.Access.TheVariants.{Write}
+use Rattle.machine.specs.declared.Fault.{Fault}
 use Rattle.machine.specs.declared.Map.{Map}
 use Rattle.machine.specs.declared.Size.TheVariants.{W}
 use Rattle.machine.specs.declared.Target.{Target}
 use Rattle.machine.specs.declared.Target.TheVariants as target
 use Rattle.machine.specs.Words.{Memory}
 use Rattle.machine.specs.State.{Registers}
-use Rattle.machine.specs.Alarms.{OrAlarm, got, alarm}
+use Rattle.machine.specs.Alarms.{OrAlarm, answered}
 use Rattle.machine.specs.Operands.{Operands}
 use Rattle.rules.specs.Rules.{size_in, rules_in, AllOf}
 use Rattle.forms.specs.Answers.{SmallTarget}
@@ -16,7 +17,6 @@ use Rattle.sure.specs.Answers.{Placed, Reaches, target_of}
 use Rattle.commands.specs.declared.Goal.{Goal}
 use Rattle.commands.specs.declared.Goal.TheVariants as goal
 use Rattle.commands.specs.declared.Given.{Given}
-use Rattle.commands.specs.declared.Given.TheVariants as given
 
 -- ---- Where a result goes
 
@@ -42,10 +42,10 @@ pub record Uniform (rules : ℕ) : Type 0 where
   pub words : W ≡ size_in rules → AllOf W (rules_in rules)
 
 -- what they give, over the registers that they leave
-abbrev pub given_as : Given → Registers → OrAlarm Operands
-given_as (given.Got x y g) r = got (record { first = x; second = y; target = target_at g; registers = r })
-given_as (given.Alarm x k) r = alarm k x
+abbrev pub given_as : Result Given Fault → Registers → OrAlarm Operands
+given_as o r =
+    answered (λ g. record { first = g.first; second = g.second; target = target_at g.goal; registers = r }) o
 
-abbrev pub AttainedBy : ℕ → Map → Memory → Given → Type 0
-AttainedBy s map m (given.Got x y g) = Attained s map m g
-AttainedBy s map m (given.Alarm x k) = Unit {0}
+abbrev pub AttainedBy : ℕ → Map → Memory → Result Given Fault → Type 0
+AttainedBy s map m (Ok g) = Attained s map m g.goal
+AttainedBy s map m (Err e) = Unit {0}

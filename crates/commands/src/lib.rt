@@ -18,11 +18,10 @@ ghost use Rattle.allforms.specs.Answers.{KeptUnsure};
 ghost use Rattle.sure.specs.Answers.{ReachesAll, ReadyOf};
 
 use actions::Action;
-use fetches::CommandByte;
-use machine::{Alarm, Map, RealAddress, Result, Size, Target, VirtualAddress};
-use operands::Operands;
+use fetches::Start;
+use machine::{Alarm, Fault, IntegerResult, Map, RealAddress, Size, Target, VirtualAddress};
 use results::Out;
-use sure::{Goes, Operands as Surely};
+use sure::Goes;
 
 // Where a result goes: to an address at which the place of a word was looked up for writing, as
 // `sure` has it; or to a target that was not looked up, as `operands` has it.
@@ -33,11 +32,12 @@ pub enum Goal {
 }
 
 // What all operands give: the first's and the second's number, and where the last one's result
-// goes; or an alarm's argument and the alarm.
+// goes.
 #[derive(Clone, Copy)]
-pub enum Given {
-    Got(u32, u32, Goal),
-    Alarm(u32, Alarm),
+pub struct Given {
+    pub first: u32,
+    pub second: u32,
+    pub goal: Goal,
 }
 
 fn goal_of(goes: Goes) -> Goal
@@ -57,18 +57,17 @@ fn put(
     status: u32,
     map: Map,
     size: Size,
-    x: Result,
+    x: IntegerResult,
     goal: Goal,
-) -> Out
+) -> Result<Out, Fault>
     requires { Fits map mem.old × Attained status map mem.old goal }
     ensures { out_as result regs.new mem.new
         ≡ end_in status map mem.old (λ v. got (stored (length_of size) x (target_at goal) regs.old)) }
 {
     match goal {
         Goal::Found(_, r) => {
-            let at = r.0 as usize;
-            words::value_to(mem, at, size, x.value);
-            Out::Done(results::with_flags(status, x.flags))
+            words::value_to(mem, r.0 as usize, size, x.value);
+            Ok(Out::Done(results::with_flags(status, x.flags)))
         }
         Goal::Named(t) => results::put(mem, regs, status, map, size, x, t),
     }
@@ -83,28 +82,27 @@ fn finish(
     x: u32,
     goal: Goal,
     what: Action,
-) -> Out
+) -> Result<Out, Fault>
     requires { Fits map mem.old × Attained status map mem.old goal }
     ensures { out_as result regs.new mem.new
         ≡ action_end status mem.old (view_by status map mem.old) regs.old x (target_at goal) what }
 {
     match what {
         Action::Give(size, v) => put(mem, regs, status, map, size, v, goal),
-        Action::Flags(f) => Out::Done(results::with_flags(status, f)),
+        Action::Flags(f) => Ok(Out::Done(results::with_flags(status, f))),
         Action::Jump(taken) => {
             if taken {
                 regs[15] = x;
             }
-            Out::Done(status)
+            Ok(Out::Done(status))
         }
         Action::Push => stack::push(mem, regs, status, map),
         Action::Pop => stack::pop(mem, regs, status, map),
         Action::Call => stack::call(mem, regs, status, map, x),
         Action::Return => stack::ret(mem, regs, status, map),
-        Action::System => Out::System(x),
-        Action::Halt => Out::Halt,
-        Action::Resume => Out::Resume(VirtualAddress(x)),
-        Action::Alarm(a, n) => Out::Alarm(a, n),
+        Action::System => Ok(Out::System(x)),
+        Action::Halt => Ok(Out::Halt),
+        Action::Resume => Ok(Out::Resume(VirtualAddress(x))),
     }
 }
 
@@ -115,12 +113,10 @@ fn take_words(
     regs: &mut [u32; 16],
     status: u32,
     map: Map,
-    start: VirtualAddress,
-    found: RealAddress,
+    start: Start,
     rules: u32,
-) -> Surely
-    requires fits { Fits map mem.now × FetchedFrom (view_by status map mem.now) mem.now start found
-        × (rules < 65536) }
+) -> Option<sure::Operands>
+    requires fits { Fits map mem.now × FetchedFrom (view_by status map mem.now) mem.now start × (rules < 65536) }
     requires uniform { Uniform rules }
     ensures value { ReadyOf (view_by status map mem.now) (rules_in rules)
         regs.old regs.new result }
@@ -129,46 +125,43 @@ fn take_words(
 {
     // The count is the highest digit.
     if rules < 0x1000 {
-        return Surely::Unsure;
+        return None;
     }
-    let size = rules::size_in(rules);
-    match size {
-        Size::W => allforms::take_all(mem, regs, status, map, start, found, rules),
-        _ => Surely::Unsure,
+    match rules::size_in(rules) {
+        Size::W => allforms::take_all(mem, regs, status, map, start, rules),
+        _ => None,
     }
 }
 
-// The operands that follow the command byte, from R15 on; the byte was fetched from start and lies
-// at found. Words without alarms are tried first; else the operands are taken from the first one on,
-// with alarms.
+// The operands that follow the command byte, from R15 on. Words without alarms are tried first; else
+// the operands are taken from the first one on, with alarms.
 fn take(
     mem: &[u8],
     regs: &mut [u32; 16],
     status: u32,
     map: Map,
-    start: VirtualAddress,
-    found: RealAddress,
+    start: Start,
     rules: u32,
-) -> Given
-    requires fits { Fits map mem.now × FetchedFrom (view_by status map mem.now) mem.now start found
-        × (rules < 65536) }
+) -> Result<Given, Fault>
+    requires fits { Fits map mem.now × FetchedFrom (view_by status map mem.now) mem.now start × (rules < 65536) }
     requires uniform { Uniform rules }
     ensures value { given_as result regs.new
         ≡ operands_of (view_by status map mem.now) (rules_in rules) regs.old }
     ensures attained { AttainedBy status map mem.now result }
 {
-    let w = take_words(mem, regs, status, map, start, found, rules);
-    match w {
-        Surely::Ready(x, y, goes) => {
-            return Given::Got(x, y, goal_of(goes));
-        }
-        Surely::Unsure => {}
+    if let Some(o) = take_words(mem, regs, status, map, start, rules) {
+        return Ok(Given {
+            first: o.first,
+            second: o.second,
+            goal: goal_of(o.goes),
+        });
     }
-    let o = operands::take_all(mem, regs, status, map, start, found, rules);
-    match o {
-        Operands::Ready(x, y, t) => Given::Got(x, y, Goal::Named(t)),
-        Operands::Alarm(a, n) => Given::Alarm(a, n),
-    }
+    let o = operands::take_all(mem, regs, status, map, start, rules)?;
+    Ok(Given {
+        first: o.first,
+        second: o.second,
+        goal: Goal::Named(o.target),
+    })
 }
 
 // The command at R15, by the lent table of rules. Where it alarms the registers are of no account.
@@ -178,34 +171,26 @@ pub fn command(
     status: u32,
     map: Map,
     table: &[u16; 166],
-) -> Out
+) -> Result<Out, Fault>
     requires { Fits map mem.old × (table.now ≡ table_of) }
     ensures { out_as result regs.new mem.new
         ≡ exec_of status map regs.old mem.old }
 {
     let pc = regs[15];
-    let start = VirtualAddress(pc);
-    let c = fetches::fetch(mem, status, map, start);
-    match c {
-        CommandByte::Alarm(a, n) => Out::Alarm(a, n),
-        CommandByte::Byte(b, found) => {
-            regs[15] = words::plus(pc, 1);
-            if 0x80 <= b {
-                return floating::command(mem, regs, status, map, table, start, found, b);
-            }
-            let no = rules::forbidden(b, status);
-            if no {
-                return Out::Alarm(b, Alarm::Mode);
-            }
-            let rules = rules::rules_of(table, b);
-            let o = take(mem, regs, status, map, start, found, rules);
-            match o {
-                Given::Alarm(a, n) => Out::Alarm(a, n),
-                Given::Got(x, y, goal) => {
-                    let what = actions::action_of(b, status % 16, x, y);
-                    finish(mem, regs, status, map, x, goal, what)
-                }
-            }
-        }
+    let address = VirtualAddress(pc);
+    let (b, place) = fetches::fetch(mem, status, map, address)?;
+    let start = Start { address, place };
+    regs[15] = words::plus(pc, 1);
+    if 0x80 <= b {
+        return floating::command(mem, regs, status, map, table, start, b);
     }
+    if rules::forbidden(b, status) {
+        return Err(Fault {
+            alarm: Alarm::Mode,
+            argument: b,
+        });
+    }
+    let o = take(mem, regs, status, map, start, rules::rules_of(table, b))?;
+    let what = actions::action_of(b, status % 16, o.first, o.second)?;
+    finish(mem, regs, status, map, o.first, o.goal, what)
 }

@@ -18,139 +18,104 @@
 #![tactic(auto)]
 
 mod play;
-mod print;
 
 ghost use Rattle.std.specs.Prelude.{◌+◌, ◌≤◌};
 
-use cases::fields::word_at;
 use play::Outcome;
+use std::fmt;
+use std::fmt::Write;
+use std::io::{Error, ErrorKind, Read, Result, copy, sink};
 
 const STDIN_FILENO: i32 = 0;
+
+const STDOUT_FILENO: i32 = 1;
 
 // The bytes that a case may be stored in.
 const LONGEST: usize = 262144;
 
-// What a case adds to the counts, and whether the input goes on.
-#[derive(Clone, Copy)]
-struct Count {
-    equal: u64,
-    differ: u64,
-    more: bool,
-}
+// Standard input, which ends where a read fails.
+#[derive(Drop)]
+struct Input;
 
-fn least(a: usize, b: usize) -> usize
-    ensures upper_bound { result ≤ a }
-    ensures upper_bound_2 { result ≤ b }
-{
-    if a < b {
-        return a;
+impl Read for Input {
+    fn read(&mut self, buf: &mut [u8]) -> Result<usize> {
+        Ok(io::read_full(STDIN_FILENO, buf))
     }
-    b
 }
 
-// Reads at most n bytes of the input into the buffer. Answers how many it read, 0 where the input
-// ends.
-fn read(n: usize, buffer: &mut [u8]) -> usize
-    ensures { result ≤ n }
-{
-    let most = least(n, buffer.len());
-    io::read_full(STDIN_FILENO, &mut buffer[..most])
-}
+// Standard output. What cannot be written is dropped.
+#[derive(Drop)]
+struct Output;
 
-// Reads past n bytes of the input. Answers whether it has them.
-fn skip(n: usize, buffer: &mut [u8]) -> bool {
-    let mut left = n;
-    while 0 < left {
-        let got = read(left, buffer);
-        if got == 0 {
-            return false;
-        }
-        left -= got;
+impl Write for Output {
+    fn write_str(&mut self, s: &str) -> fmt::Result {
+        io::write_all(STDOUT_FILENO, s.as_bytes());
+        Ok(())
     }
-    true
 }
 
-fn skip_case(size: usize, buffer: &mut [u8]) -> Outcome {
-    if skip(size, buffer) {
-        return Outcome::LeftOut;
-    }
-    Outcome::Cut
+// The number of cases, where the input starts with a header.
+fn read_header(input: &mut impl Read) -> Option<u64> {
+    let mut header = [0u8; cases::HEADER];
+    input.read_exact(&mut header).ok()?;
+    cases::number_of_cases(&header)
 }
 
-fn play_next(size: usize, buffer: &mut [u8]) -> Outcome {
-    if buffer.len() < size {
-        return skip_case(size, buffer);
+// Reads past n bytes of the input. Fails where it ends before.
+fn skip(n: u64, input: &mut impl Read) -> Result<()> {
+    if copy(&mut input.by_ref().take(n), &mut sink())? < n {
+        return Err(Error::from(ErrorKind::UnexpectedEof));
     }
-    if read(size, buffer) < size {
-        return Outcome::Cut;
-    }
-    play::play_case(&buffer[..size])
+    Ok(())
 }
 
-// Reads the next case, its size first, and plays it.
-fn next_case(buffer: &mut [u8]) -> Outcome {
+// Reads the next case, its size first, and plays it. Fails where the input ends before.
+fn next_case(input: &mut impl Read, buffer: &mut [u8]) -> Result<Outcome> {
     let mut size = [0u8; 4];
-    if io::read_full(STDIN_FILENO, &mut size) < 4 {
-        return Outcome::Cut;
-    }
-    play_next(word_at(&size, 0) as usize, buffer)
-}
-
-// Plays the next case and prints its difference.
-fn count_case(number: u64, buffer: &mut [u8]) -> Count
-    ensures { result.equal + result.differ ≤ 1 }
-{
-    let outcome = next_case(buffer);
-    match outcome {
-        Outcome::Equal => Count {
-            equal: 1,
-            differ: 0,
-            more: true,
-        },
-        Outcome::Differs(verdict) => {
-            print::print_difference(number, verdict);
-            Count {
-                equal: 0,
-                differ: 1,
-                more: true,
-            }
+    input.read_exact(&mut size)?;
+    let size = u32::from_be_bytes(size);
+    match buffer.get_mut(..size as usize) {
+        Some(case) => {
+            input.read_exact(case)?;
+            Ok(play::play_case(case))
         }
-        Outcome::LeftOut => Count {
-            equal: 0,
-            differ: 0,
-            more: true,
-        },
-        Outcome::Cut => Count {
-            equal: 0,
-            differ: 0,
-            more: false,
-        },
+        None => {
+            skip(u64::from(size), input)?;
+            Ok(Outcome::LeftOut)
+        }
     }
 }
 
-fn check_cases(all: u64, buffer: &mut [u8]) {
-    let mut number: u64 = 0;
+// Plays the cases and prints the difference of each that differs.
+fn check_cases(out: &mut Output, input: &mut impl Read, all: u64) {
+    let mut buffer = [0u8; LONGEST];
     let mut equal: u64 = 0;
     let mut differ: u64 = 0;
-    let mut more = true;
-    while number < all && more {
-        number += 1;
-        let count = count_case(number, buffer);
-        equal += count.equal;
-        differ += count.differ;
-        more = count.more;
+    for number in 1..=all {
+        match next_case(input, &mut buffer) {
+            Ok(Outcome::Equal) => equal += 1,
+            Ok(Outcome::Differs(verdict)) => {
+                differ += 1;
+                let _ = writeln!(out, "case {number}: {verdict}");
+            }
+            Ok(Outcome::LeftOut) => {}
+            Err(_) => break,
+        }
     }
-    print::print_counts(equal, differ, all - equal - differ);
+    let left_out = all - equal - differ;
+    let _ = writeln!(
+        out,
+        "{equal} cases equal, {differ} differ, {left_out} left out"
+    );
 }
 
 fn main() {
-    let mut header = [0u8; cases::HEADER];
-    let n = io::read_full(STDIN_FILENO, &mut header);
-    let s = &header[..n];
-    if !cases::is_header(s) {
-        print::print_no_cases();
-        return;
+    let input = &mut Input;
+    let out = &mut Output;
+    match read_header(input) {
+        Some(all) => check_cases(out, input, all),
+        None => {
+            let _ = writeln!(out, "the input holds no cases");
+        }
     }
-    let mut buffer = [0u8; LONGEST];
-    check_cases(cases::number_of_cases(s), &mut buffer);
 }

@@ -1,15 +1,15 @@
 -- What the callees of `run_to` come to together: a run with the armed addresses, and the place found after it, is a run
 -- with the list.
 use mathlib.Core.Path.{◌≡◌, ◌∙◌}
-use Prim.Native.Nat.{ℕ, ◌≤◌}
+use Prim.Native.Nat.{ℕ}
 use mathlib.Core.List.{List}
 use lib.ListN.{take}
 use Rattle.machine.specs.declared.Desk.{Desk}
 use Rattle.machine.specs.State.{reg}
 use Rattle.machine.specs.Words.{Memory}
-use Rattle.breakpoints.specs.declared.Armed.{Armed}
+use Rattle.breakpoints.specs.declared.armed.Armed.{Armed}
 use Rattle.breakpoints.specs.declared.Breakpoint.{Breakpoint}
-use Rattle.breakpoints.specs.declared.Found.{Found}
+use Rattle.std.specs.Prelude.{Option}
 use Rattle.breakpoints.specs.declared.RunToReply.{RunToReply}
 use Rattle.breakpoints.specs.Breakpoints.{first_armed, most}
 use Rattle.breakpoints.specs.Gathered.{Gathers, run_armed_of, placed_reply, placed_by}
@@ -21,15 +21,11 @@ abbrev pub left : RunToReply → Memory → RanTo
 left r m = record { reply = r; memory = m }
 
 module _ (a : Armed) (ps : List Breakpoint) (gathered : Gathers a ps) where
-  -- what is asked of a for a run
-  pub countable : a.length ≤ most → a.count ≤ most
-  countable le = (gathered.few (rw (← gathered.long) le)).0
-
   -- what the four calls after `gather` ensure, together
   pub run_to_is : (n : ℕ) (d : Desk) (m : Memory) (r : RunToReply) (zs : Memory) → left r zs ≡ run_armed_of a n d m
-      → (r15 : ℕ) → r15 ≡ reg r.desk.registers 15 → (f : Found) → f ≡ first_armed r15 (take most ps)
-      → (z : RunToReply) → z ≡ placed_reply r f → left z zs ≡ run_to_of ps n d m
-  run_to_is n d m r zs ran r15 is-r15 f found z placed = composed ∙ placed_run a ps gathered n d m
+      → (r15 : ℕ) → r15 ≡ reg r.desk.registers 15 → (found : Option ℕ) → found ≡ first_armed r15 (take most ps)
+      → (z : RunToReply) → z ≡ placed_reply r found → left z zs ≡ run_to_of ps n d m
+  run_to_is n d m r zs ran r15 is-r15 found is_first z placed = composed ∙ placed_run a ps gathered n d m
     where
       composed : left z zs ≡ placed_by (points_at (take most ps)) (run_armed_of a n d m)
-      composed = rw (placed, found, is-r15, ← ran)
+      composed = rw (placed, is_first, is-r15, ← ran)

@@ -7,23 +7,20 @@ ghost use Rattle.breakpoints.specs.RunTo.{run_to_of};
 ghost use Rattle.machine.specs.Calls.{fresh_of, request_of, run_of, step_of};
 
 use breakpoints::{Breakpoint, RunToReply};
-use machine::{
-    Answer, Desk, RealAddress, Refusal, Reply, RunReply, StepAnswer, StepReply, VirtualAddress,
-};
+use machine::{Desk, RealAddress, Refusal, Reply, RunReply, StepReply, VirtualAddress};
 
 // A fresh desk over this memory: kernel mode, zero registers but R15, which is start.
 pub fn fresh(mem: &[u8], system: RealAddress, control: RealAddress, start: VirtualAddress) -> Reply
     ensures { result ≡ fresh_of (length mem.now) system control start }
 {
-    let blocks = refusals::block_refusal(mem.len(), system, control);
-    match blocks {
-        Answer::Refused(k) => Reply {
-            answer: Answer::Refused(k),
-            desk: state::zero(k.number()),
-        },
-        Answer::Accepted => Reply {
-            answer: Answer::Accepted,
+    match refusals::block_refusal(mem.len(), system, control) {
+        Ok(()) => Reply {
+            answer: Ok(()),
             desk: state::fresh(system, control, start),
+        },
+        Err(refusal) => Reply {
+            answer: Err(refusal),
+            desk: state::zero(u32::from(refusal)),
         },
     }
 }
@@ -32,19 +29,18 @@ pub fn fresh(mem: &[u8], system: RealAddress, control: RealAddress, start: Virtu
 pub fn step(d: Desk, mem: &mut [u8]) -> StepReply
     ensures { record { reply = result; memory = mem.new } ≡ step_of d mem.old }
 {
-    let q = refusals::refusal(d, mem.len());
-    match q {
-        Answer::Refused(k) => StepReply {
-            answer: StepAnswer::Refused(k),
+    match refusals::refusal(d, mem.len()) {
+        Ok(()) => {
+            let p = runs::steps(d, mem, 1, &[], 0);
+            StepReply {
+                answer: p.last,
+                desk: p.desk,
+            }
+        }
+        Err(refusal) => StepReply {
+            answer: Err(refusal),
             desk: d,
         },
-        Answer::Accepted => {
-            let none = [0u32; 0];
-            let p = runs::steps(d, mem, 1, &none, 0);
-            let answer = p.last;
-            let desk = p.desk;
-            StepReply { answer, desk }
-        }
     }
 }
 
@@ -52,23 +48,20 @@ pub fn step(d: Desk, mem: &mut [u8]) -> StepReply
 pub fn run(d: Desk, mem: &mut [u8], n: u64) -> RunReply
     ensures { record { reply = result; memory = mem.new } ≡ run_of n d mem.old }
 {
-    let q = refusals::refusal(d, mem.len());
-    match q {
-        Answer::Refused(k) => RunReply {
-            answer: Answer::Refused(k),
+    match refusals::refusal(d, mem.len()) {
+        Ok(()) => {
+            let p = runs::steps(d, mem, n, &[], 0);
+            RunReply {
+                answer: Ok(()),
+                steps: p.count,
+                desk: p.desk,
+            }
+        }
+        Err(refusal) => RunReply {
+            answer: Err(refusal),
             steps: 0,
             desk: d,
         },
-        Answer::Accepted => {
-            let none = [0u32; 0];
-            let p = runs::steps(d, mem, n, &none, 0);
-            let desk = p.desk;
-            RunReply {
-                answer: Answer::Accepted,
-                steps: p.count,
-                desk,
-            }
-        }
     }
 }
 
@@ -82,37 +75,31 @@ pub fn run_to(d: Desk, mem: &mut [u8], n: u64, points: &[Breakpoint]) -> RunToRe
     let a = breakpoints::gather(points);
     let r = armed::run_armed(d, mem, n, a);
     let r15 = breakpoints::r15_after(r);
-    let f = breakpoints::first_armed(points, r15);
-    breakpoints::placed(r, f)
+    let found = breakpoints::first_armed(points, r15);
+    breakpoints::placed(r, found)
 }
 
 // An interrupt level is requested: any number may be given, 1 to 15 are levels.
 pub fn request(d: Desk, level: u32) -> Reply
     ensures { result ≡ request_of d level }
 {
-    let valid = checks::state_valid(d.status, d.pending);
-    if !valid {
+    if !checks::state_valid(d.status, d.pending) {
         return Reply {
-            answer: Answer::Refused(Refusal::Status),
+            answer: Err(Refusal::Status),
             desk: d,
         };
     }
-    if level < 1 {
+    if !(1..=15).contains(&level) {
         return Reply {
-            answer: Answer::Refused(Refusal::Level),
+            answer: Err(Refusal::Level),
             desk: d,
         };
     }
-    if 15 < level {
-        return Reply {
-            answer: Answer::Refused(Refusal::Level),
-            desk: d,
-        };
-    }
-    let mut desk = d;
-    desk.pending = levels::with_level(d.pending, level);
     Reply {
-        answer: Answer::Accepted,
-        desk,
+        answer: Ok(()),
+        desk: Desk {
+            pending: levels::with_level(d.pending, level),
+            ..d
+        },
     }
 }

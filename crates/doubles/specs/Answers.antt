@@ -1,9 +1,7 @@
 -- A value of eight bytes, in the terms of `machine`.
-use Rattle.std.specs.Prelude.{ℕ}
-use Rattle.machine.specs.Alarms.{OrAlarm, got, alarm}
-use Rattle.doubles.specs.declared.Bits.{Bits}
-use Rattle.doubles.specs.declared.Bits.TheVariants as bits
+use Rattle.std.specs.Prelude.{ℕ, Result}
+use Rattle.machine.specs.declared.Fault.{Fault}
+use Rattle.machine.specs.Alarms.{OrAlarm, answered}
 
-abbrev pub bits_as : Bits → OrAlarm ℕ
-bits_as (bits.Value n) = got n
-bits_as (bits.Alarm x k) = alarm k x
+abbrev pub bits_as : Result ℕ Fault → OrAlarm ℕ
+bits_as r = answered (λ n. n) r

@@ -10,17 +10,7 @@ ghost use Rattle.machine.specs.Map.{read_bytes, view_by};
 ghost use Rattle.machine.specs.Words.{bytes_of, value_at};
 ghost use Rattle.stores.specs.Answers.{stored_as, stored_in};
 
-use lookup::Whole;
-use machine::{Access, Alarm, Map, Size, VirtualAddress};
-use reads::Got;
-use stores::Stored;
-
-// The bits of a value, or an alarm's argument and the alarm.
-#[derive(Clone, Copy)]
-pub enum Bits {
-    Value(u64),
-    Alarm(u32, Alarm),
-}
+use machine::{Access, Fault, Map, Size, VirtualAddress};
 
 // Two words as one value, the high one first.
 pub fn joined(high: u32, low: u32) -> u64
@@ -40,37 +30,24 @@ fn double_at(bytes: &[u8], a: usize) -> u64
 }
 
 // The value at an address, word by word: its bytes may lie in two pages.
-fn read_words(mem: &[u8], status: u32, map: Map, x: VirtualAddress) -> Bits
+fn read_words(mem: &[u8], status: u32, map: Map, x: VirtualAddress) -> Result<u64, Fault>
     requires { Fits map mem.now }
     ensures { bits_as result ≡ read_bytes (view_by status map mem.now) Access.Read 8 x }
 {
-    let high = reads::read(mem, status, map, x, Size::W);
-    match high {
-        Got::Value(h) => {
-            let next = VirtualAddress(words::plus(x.0, 4));
-            let low = reads::read(mem, status, map, next, Size::W);
-            match low {
-                Got::Value(l) => Bits::Value(joined(h, l)),
-                Got::Alarm(a, k) => Bits::Alarm(a, k),
-            }
-        }
-        Got::Alarm(a, k) => Bits::Alarm(a, k),
-    }
+    let next = VirtualAddress(words::plus(x.0, 4));
+    let high = reads::read(mem, status, map, x, Size::W)?;
+    let low = reads::read(mem, status, map, next, Size::W)?;
+    Ok(joined(high, low))
 }
 
 // The value at an address.
-pub fn read(mem: &[u8], status: u32, map: Map, x: VirtualAddress) -> Bits
+pub fn read(mem: &[u8], status: u32, map: Map, x: VirtualAddress) -> Result<u64, Fault>
     requires { Fits map mem.now }
     ensures { bits_as result ≡ read_bytes (view_by status map mem.now) Access.Read 8 x }
 {
-    let s = lookup::look_whole(mem, status, map, x, 8, Access::Read);
-    match s {
-        Whole::At(r) => {
-            let at = r.0 as usize;
-            Bits::Value(double_at(mem, at))
-        }
-        Whole::Alarm(_, k) => Bits::Alarm(x.0, k),
-        Whole::Apart => read_words(mem, status, map, x),
+    match lookup::look_whole(mem, status, map, x, 8, Access::Read)? {
+        Some(r) => Ok(double_at(mem, r.0 as usize)),
+        None => read_words(mem, status, map, x),
     }
 }
 
@@ -84,20 +61,23 @@ fn lay(bytes: &mut [u8], a: usize, bits: u64)
 }
 
 // A value to an address.
-pub fn store(mem: &mut [u8], status: u32, map: Map, x: VirtualAddress, bits: u64) -> Stored
+pub fn store(
+    mem: &mut [u8],
+    status: u32,
+    map: Map,
+    x: VirtualAddress,
+    bits: u64,
+) -> Result<(), Fault>
     requires { Fits map mem.old }
     ensures { stored_as result mem.new ≡ stored_in status map mem.old x (bytes_of 8 bits) }
 {
-    let s = lookup::look_whole(mem, status, map, x, 8, Access::Write);
-    match s {
-        Whole::At(r) => {
-            let at = r.0 as usize;
-            lay(mem, at, bits);
-            Stored::Done
+    match lookup::look_whole(mem, status, map, x, 8, Access::Write)? {
+        Some(r) => {
+            lay(mem, r.0 as usize, bits);
+            Ok(())
         }
-        Whole::Alarm(_, k) => Stored::Alarm(x.0, k),
-        Whole::Apart => {
-            let mut bytes: [u8; 60] = [0; 60];
+        None => {
+            let mut bytes = [0u8; 60];
             lay(&mut bytes, 0, bits);
             stores::store_each(mem, status, map, x, &bytes, 8)
         }

@@ -7,29 +7,22 @@ ghost use Rattle.std.specs.Prelude.{◌≡◌};
 ghost use Rattle.effects.specs.Effects.{EffectOf, NarrowOf};
 
 use actions::Action;
-use machine::{Result, Size};
+use machine::{IntegerResult, Size};
 
-// What a command on words, a jump, CALL or RET does with its operands' numbers.
-#[derive(Clone, Copy)]
-pub enum Effect {
-    Does(Action),
-    Unsure,
-}
-
-fn gives(x: Result) -> Effect
-    ensures { result ≡ Effect.Does (Action.Give Size.W x) }
+fn gives(x: IntegerResult) -> Option<Action>
+    ensures { result ≡ Some (Action.Give Size.W x) }
 {
-    Effect::Does(Action::Give(Size::W, x))
+    Some(Action::Give(Size::W, x))
 }
 
-fn jumps(taken: bool) -> Effect
-    ensures { result ≡ Effect.Does (Action.Jump taken) }
+fn jumps(taken: bool) -> Option<Action>
+    ensures { result ≡ Some (Action.Jump taken) }
 {
-    Effect::Does(Action::Jump(taken))
+    Some(Action::Jump(taken))
 }
 
-// The operation of a command byte on words, a jump, CALL or RET.
-pub fn effect_of(b: u32, f: u32, x: u32, y: u32) -> Effect
+// The operation of a command byte on words, a jump, CALL or RET; None of any other byte.
+pub fn effect_of(b: u32, f: u32, x: u32, y: u32) -> Option<Action>
     ensures { EffectOf b f x y result }
 {
     match b {
@@ -46,7 +39,7 @@ pub fn effect_of(b: u32, f: u32, x: u32, y: u32) -> Effect
         0x52 | 0x56 => gives(products::multiply(Size::W, x, y)),
         0x60 => gives(shifts::shift(x, y)),
         0x61 => gives(shifts::rotate(x, y)),
-        0x66 => Effect::Does(Action::Flags(sums::compare(Size::W, x, y))),
+        0x66 => Some(Action::Flags(sums::compare(Size::W, x, y))),
         0x70 => jumps(true),
         0x71 => jumps(actions::flag_z(f)),
         0x72 => jumps(!actions::flag_z(f)),
@@ -56,9 +49,9 @@ pub fn effect_of(b: u32, f: u32, x: u32, y: u32) -> Effect
         0x76 => jumps(actions::flag_n(f) | actions::flag_z(f)),
         0x77 => jumps(actions::flag_v(f)),
         0x78 => jumps(actions::flag_c(f)),
-        0x79 => Effect::Does(Action::Call),
-        0x7A => Effect::Does(Action::Return),
-        _ => Effect::Unsure,
+        0x79 => Some(Action::Call),
+        0x7A => Some(Action::Return),
+        _ => None,
     }
 }
 
@@ -66,38 +59,43 @@ pub fn effect_of(b: u32, f: u32, x: u32, y: u32) -> Effect
 // flags alone.
 #[derive(Clone, Copy)]
 pub enum NarrowEffect {
-    Gives(Result),
+    Gives(IntegerResult),
     Flags(u32),
-    Unsure,
+}
+
+fn narrow(x: IntegerResult) -> Option<NarrowEffect>
+    ensures { result ≡ Some (NarrowEffect.Gives x) }
+{
+    Some(NarrowEffect::Gives(x))
 }
 
 // The same for bytes and halfwords.
-pub fn narrow_effect_of(b: u32, x: u32, y: u32) -> NarrowEffect
+pub fn narrow_effect_of(b: u32, x: u32, y: u32) -> Option<NarrowEffect>
     ensures { NarrowOf b x y result }
 {
     match b {
-        0x10 => NarrowEffect::Gives(integers::plain(Size::B, integers::low(Size::B, x))),
-        0x14 => NarrowEffect::Gives(integers::plain(Size::B, 0)),
-        0x18 => NarrowEffect::Gives(sums::subtract(Size::B, x, 0)),
-        0x1C => NarrowEffect::Gives(integers::plain(Size::B, integers::complement(Size::B, x))),
-        0x28 | 0x2C => NarrowEffect::Gives(integers::or(Size::B, x, y)),
-        0x30 | 0x34 => NarrowEffect::Gives(integers::and_not(Size::B, x, y)),
-        0x38 | 0x3C => NarrowEffect::Gives(integers::xor(Size::B, x, y)),
-        0x40 | 0x44 => NarrowEffect::Gives(sums::add(Size::B, x, y)),
-        0x48 | 0x4C => NarrowEffect::Gives(sums::subtract(Size::B, x, y)),
-        0x50 | 0x54 => NarrowEffect::Gives(products::multiply(Size::B, x, y)),
-        0x64 => NarrowEffect::Flags(sums::compare(Size::B, x, y)),
-        0x11 => NarrowEffect::Gives(integers::plain(Size::H, integers::low(Size::H, x))),
-        0x15 => NarrowEffect::Gives(integers::plain(Size::H, 0)),
-        0x19 => NarrowEffect::Gives(sums::subtract(Size::H, x, 0)),
-        0x1D => NarrowEffect::Gives(integers::plain(Size::H, integers::complement(Size::H, x))),
-        0x29 | 0x2D => NarrowEffect::Gives(integers::or(Size::H, x, y)),
-        0x31 | 0x35 => NarrowEffect::Gives(integers::and_not(Size::H, x, y)),
-        0x39 | 0x3D => NarrowEffect::Gives(integers::xor(Size::H, x, y)),
-        0x41 | 0x45 => NarrowEffect::Gives(sums::add(Size::H, x, y)),
-        0x49 | 0x4D => NarrowEffect::Gives(sums::subtract(Size::H, x, y)),
-        0x51 | 0x55 => NarrowEffect::Gives(products::multiply(Size::H, x, y)),
-        0x65 => NarrowEffect::Flags(sums::compare(Size::H, x, y)),
-        _ => NarrowEffect::Unsure,
+        0x10 => narrow(integers::plain(Size::B, integers::low(Size::B, x))),
+        0x14 => narrow(integers::plain(Size::B, 0)),
+        0x18 => narrow(sums::subtract(Size::B, x, 0)),
+        0x1C => narrow(integers::plain(Size::B, integers::complement(Size::B, x))),
+        0x28 | 0x2C => narrow(integers::or(Size::B, x, y)),
+        0x30 | 0x34 => narrow(integers::and_not(Size::B, x, y)),
+        0x38 | 0x3C => narrow(integers::xor(Size::B, x, y)),
+        0x40 | 0x44 => narrow(sums::add(Size::B, x, y)),
+        0x48 | 0x4C => narrow(sums::subtract(Size::B, x, y)),
+        0x50 | 0x54 => narrow(products::multiply(Size::B, x, y)),
+        0x64 => Some(NarrowEffect::Flags(sums::compare(Size::B, x, y))),
+        0x11 => narrow(integers::plain(Size::H, integers::low(Size::H, x))),
+        0x15 => narrow(integers::plain(Size::H, 0)),
+        0x19 => narrow(sums::subtract(Size::H, x, 0)),
+        0x1D => narrow(integers::plain(Size::H, integers::complement(Size::H, x))),
+        0x29 | 0x2D => narrow(integers::or(Size::H, x, y)),
+        0x31 | 0x35 => narrow(integers::and_not(Size::H, x, y)),
+        0x39 | 0x3D => narrow(integers::xor(Size::H, x, y)),
+        0x41 | 0x45 => narrow(sums::add(Size::H, x, y)),
+        0x49 | 0x4D => narrow(sums::subtract(Size::H, x, y)),
+        0x51 | 0x55 => narrow(products::multiply(Size::H, x, y)),
+        0x65 => Some(NarrowEffect::Flags(sums::compare(Size::H, x, y))),
+        _ => None,
     }
 }

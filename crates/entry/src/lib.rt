@@ -9,7 +9,7 @@ ghost use Rattle.machine.specs.State.{desk_with, without_level};
 ghost use Rattle.machine.specs.Steps.{enters, resume as resumeOf, stop as stopOf};
 ghost use Rattle.results.specs.Ends.{out_as};
 
-use machine::{Alarm, Desk, Map, Mark, RealAddress, StepAnswer, StepReply};
+use machine::{Alarm, Desk, Fault, Map, Mark, RealAddress, StepEvent, StepReply};
 use results::Out;
 
 // It stops with a number, and all else is as before the command.
@@ -19,7 +19,7 @@ fn stop(d: Desk, n: u32) -> StepReply
     let registers = d.registers;
     let desk = state::with(d, registers, d.status, d.pending, Mark::Stopped(n));
     StepReply {
-        answer: StepAnswer::Stopped(n),
+        answer: Ok(StepEvent::Stopped(n)),
         desk,
     }
 }
@@ -59,7 +59,7 @@ fn enter(
     let mark = d.mark;
     let desk = state::with(d, work, status, pending, mark);
     StepReply {
-        answer: StepAnswer::Entered(cause),
+        answer: Ok(StepEvent::Entered(cause)),
         desk,
     }
 }
@@ -91,54 +91,60 @@ fn resume(d: Desk, mem: &[u8], a: RealAddress) -> StepReply
     let registers = words::sixteen(mem, at);
     let desk = state::resumed(d, registers, status, map, a);
     StepReply {
-        answer: StepAnswer::Done,
+        answer: Ok(StepEvent::Done),
         desk,
     }
 }
 
 // An alarm: a kernel entry in user mode, a stop in kernel mode.
-fn alarm(d: Desk, mem: &mut [u8], a: Alarm, x: u32) -> StepReply
+fn break_off(d: Desk, mem: &mut [u8], fault: Fault) -> StepReply
     requires { Blocks d mem.old }
-    ensures { stepped result mem.new ≡ alarmed_by d mem.old a x }
+    ensures { stepped result mem.new ≡ alarmed_by d mem.old fault.alarm fault.argument }
 {
     if d.status < 0x8000_0000 {
-        let registers = d.registers;
-        return enter(d, mem, a.cause(), registers, x, d.pending);
+        return enter(
+            d,
+            mem,
+            fault.alarm.cause(),
+            d.registers,
+            fault.argument,
+            d.pending,
+        );
     }
-    stop_for(d, a)
+    stop_for(d, fault.alarm)
 }
 
 // A command that ended quietly changes registers and status.
 fn done(d: Desk, registers: [u32; 16], status: u32) -> StepReply
     ensures { result ≡ record
-        { answer = StepAnswer.Done; desk = desk_with d registers status d.pending d.mark } }
+        { answer = Ok StepEvent.Done; desk = desk_with d registers status d.pending d.mark } }
 {
     let mark = d.mark;
     let desk = state::with(d, registers, status, d.pending, mark);
     StepReply {
-        answer: StepAnswer::Done,
+        answer: Ok(StepEvent::Done),
         desk,
     }
 }
 
 // What becomes of a command of desk d that ended so, with these registers.
-pub fn conclude(d: Desk, mem: &mut [u8], work: [u32; 16], out: Out) -> StepReply
+pub fn conclude(d: Desk, mem: &mut [u8], work: [u32; 16], out: Result<Out, Fault>) -> StepReply
     requires { Blocks d mem.old × ResumesInKernelMode d.status out }
     ensures { stepped result mem.new
         ≡ concluded_end d mem.old (out_as out work mem.old) }
 {
     match out {
-        Out::Done(s) => done(d, work, s),
-        Out::System(x) => enter(d, mem, 1, work, x, d.pending),
-        Out::Halt => {
+        Ok(Out::Done(s)) => done(d, work, s),
+        Ok(Out::System(x)) => enter(d, mem, 1, work, x, d.pending),
+        Ok(Out::Halt) => {
             let desk = state::with(d, work, d.status, d.pending, Mark::Stopped(0));
             StepReply {
-                answer: StepAnswer::Stopped(0),
+                answer: Ok(StepEvent::Stopped(0)),
                 desk,
             }
         }
-        Out::Resume(x) => resume(d, mem, lookup::real(d.status, x)),
-        Out::Alarm(x, a) => alarm(d, mem, a, x),
+        Ok(Out::Resume(x)) => resume(d, mem, lookup::real(d.status, x)),
+        Err(fault) => break_off(d, mem, fault),
     }
 }
 

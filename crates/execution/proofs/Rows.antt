@@ -1,26 +1,25 @@
 -- Commands in a row: one more that ends quietly, and one that does not.
+use Rattle.std.specs.Prelude.{Result, Ok, Err, Option, Some, None}
+use Rattle.std.specs.Option.{is_some}
 use Prim.Native.Nat.{ℕ, ◌+◌, ◌≤◌, ◌<◌}
 use mathlib.Core.Path.{◌≡◌, refl, sym, ap, subst, ◌∙◌}
 use mathlib.Core.Bool.{true, false}
-use mathlib.Core.List.{List, [], ◌∷◌}
-use mathlib.Core.Logic.{inl, inr}
+use mathlib.Core.List.{List}
+use mathlib.Core.Logic.{inr}
 use native.Mathlib.Decide.{dec_lt}
 use native.Mathlib.Numerals.{add-one}
 use native.Mathlib.Omega.{arith}
-use types.Run.{OneOf, miss}
-use denote.Enum.Declared.{tag_of}
 use lib.ListN.{length}
-use Rattle.machine.specs.declared.Alarm.{Alarm}
+use Rattle.machine.specs.declared.Fault.{Fault}
 use Rattle.machine.specs.declared.Map.{Map}
 use Rattle.machine.specs.Words.{Memory}
 use Rattle.machine.specs.State.{Registers, reg}
 use Rattle.watch.specs.Addresses.{among}
-use Rattle.lookup.specs.Answers.{Fits}
-use Rattle.results.specs.contracts.Out as Out
 use Rattle.results.specs.declared.Out.{Out}
 use Rattle.results.specs.declared.Out.TheVariants as out
-use Rattle.results.specs.Ends.{command_done, alarmed, out_as}
+use Rattle.results.specs.Ends.{command_done, out_as}
 use Rattle.commands.specs.Execution.{exec_of}
+use Rattle.quick.specs.Quietly.{Quietly}
 use Rattle.execution.specs.Rows.{followed, in_row, Elsewhere, Passed, Paused, Halfway, Rowed}
 use Rattle.execution.proofs.Kept.{Kept, exec_kept}
 
@@ -53,20 +52,24 @@ module _ (addresses : List ℕ) (s : ℕ) (map : Map) (r : Registers) (m : Memor
       go (yes l) = f j some l
       go (no l) = let last : j ≡ k = omega (arith, h, l) in rw last e
 
--- the numbers of System, Halt and Resume among the ends
-abbrev others : List ℕ
-others = 1 ∷ 2 ∷ 3 ∷ []
+-- ---- The quick way
+
+module _ (s : ℕ) (map : Map) (r : Registers) (m : Memory) (q : Registers) (n : Memory) where
+  -- it was not sure
+  pub unsure : (o : Option ℕ) → is_some o ≡ false → Quietly s map r m q n o → (q ≡ r) × (n ≡ m)
+  unsure None e f = f
+  unsure (Some t) e f = absurd (let z : true ≡ false = e in cc)
+
+  pub sure : (o : Option ℕ) → {t : ℕ} → o ≡ Some t → Quietly s map r m q n o
+      → command_done q t n ≡ exec_of s map r m
+  sure o e f = rw e at f
+
+-- a command that ended so did not end quietly
+abbrev pub Unquiet : Out → Type 0
+Unquiet o = (u : ℕ) → o ≡ out.Done u → ⊥
 
 module _ {s : ℕ} {map : Map} {r : Registers} {m : Memory} {k : ℕ} {q : Registers} {t : ℕ} {y : Memory}
     (b : Quiet s map r m k q t y) where
-  pub fits_still : Fits map m → Fits map y
-  fits_still f =
-      record {
-        inside = rw b.same f.inside;
-        small = rw b.same f.small;
-        whole = rw b.same f.whole;
-      }
-
   -- where the quick way was not sure
   pub unchanged : {w : Registers} {z : Memory} → (w ≡ q) × (z ≡ y) → Quiet s map r m k w t z
   unchanged same = rw (same.0, same.1) b
@@ -80,25 +83,24 @@ module _ {s : ℕ} {map : Map} {r : Registers} {m : Memory} {k : ℕ} {q : Regis
   module _ (addresses : List ℕ) (passed : Passed addresses (k + 1) s map r m) {n : ℕ} (left : k < n) (w : Registers)
       (z : Memory) where
     -- one more, which does not end quietly
-    ends : (o : Out) → (Kept t y (out_as o w z) → z ≡ y) → out_as o w z ≡ exec_of t map q y
+    ends : (o : Result Out Fault) → (Kept t y (out_as o w z) → z ≡ y) → out_as o w z ≡ exec_of t map q y
         → Halfway addresses n s map r m q t k w z o
     ends o f e =
         let kept : Kept t y (out_as o w z) = rw e (exec_kept t y map q) in
         let same : z ≡ y = f kept in
         record { more = left; quiet = rw same b.row; passed = passed; next = e ∙ ap (exec_of t map q) (sym same) }
 
-    pub one_alarms : (x : ℕ) (a : Alarm) → alarmed a x z ≡ exec_of t map q y
-        → Halfway addresses n s map r m q t k w z (out.Alarm x a)
-    one_alarms x a e = ends (out.Alarm x a) (λ g. g) e
+    pub one_alarms : (e : Fault) → out_as (Err e) w z ≡ exec_of t map q y
+        → Halfway addresses n s map r m q t k w z (Err e)
+    one_alarms e f = ends (Err e) (λ g. g) f
 
     -- neither quietly nor by an alarm
-    pub one_ends : (o : Out) → OneOf others (tag_of Out.the_type o) → out_as o w z ≡ exec_of t map q y
-        → Rowed addresses n s map r m q t k w z o
-    one_ends (out.Done u) h e = absurd (miss others 0 tt h)
-    one_ends (out.System x) h e = ends (out.System x) (λ g. g) e
-    one_ends out.Halt h e = ends out.Halt (λ g. g) e
-    one_ends (out.Resume a) h e = ends (out.Resume a) (λ g. g) e
-    one_ends (out.Alarm x a) h e = absurd (miss others 4 tt h)
+    pub one_ends : (o : Out) → Unquiet o → out_as (Ok o) w z ≡ exec_of t map q y
+        → Rowed addresses n s map r m q t k w z (Ok o)
+    one_ends (out.Done u) h e = absurd (h u refl)
+    one_ends (out.System x) h e = ends (Ok (out.System x)) (λ g. g) e
+    one_ends out.Halt h e = ends (Ok out.Halt) (λ g. g) e
+    one_ends (out.Resume a) h e = ends (Ok (out.Resume a)) (λ g. g) e
 
 -- ---- One more, and whether the next is at one of the addresses
 
@@ -106,17 +108,6 @@ module _ (addresses : List ℕ) {s : ℕ} {map : Map} {r : Registers} {m : Memor
   passed_one : {q : Registers} {t : ℕ} {y : Memory} → Quiet s map r m k q t y → Passed addresses k s map r m
       → among (reg q 15) addresses ≡ false → Passed addresses (k + 1) s map r m
   passed_one b f e = passed_more addresses s map r m k f (subst (Elsewhere addresses) b.row e)
-
-  -- all have ended quietly
-  pub all_quiet : {q : Registers} {t : ℕ} {y : Memory} → Quiet s map r m k q t y → {n : ℕ} → k ≡ n
-      → Passed addresses (k + 1) s map r m → Paused addresses n s map r m q t k y
-  all_quiet b e f = record {
-    some = λ h. omega (arith, h, e);
-    few = omega (arith, e);
-    quiet = b.row;
-    passed = passed_fewer addresses s map r m k f;
-    ends = inl e;
-  }
 
 module _ (addresses : List ℕ) {s : ℕ} {map : Map} {r : Registers} {m : Memory} {k : ℕ} {q : Registers} {t : ℕ}
     {y : Memory} (b : Quiet s map r m k q t y) (passed : Passed addresses (k + 1) s map r m) {w : Registers} {u : ℕ}
@@ -148,26 +139,24 @@ pub record Ones (addresses : List ℕ) (n s : ℕ) (map : Map) (r : Registers) (
 
 module _ (addresses : List ℕ) (n s : ℕ) (map : Map) (r : Registers) (m : Memory) (q : Registers) (t k : ℕ)
     (w : Registers) (y : Memory) where
-  halfway_ones : (o : Out) → Halfway addresses n s map r m q t k w y o → Ones addresses n s map r m q t k y
+  halfway_ones : (o : Result Out Fault) → Halfway addresses n s map r m q t k w y o
+      → Ones addresses n s map r m q t k y
   halfway_ones o h =
       record { few = omega (arith, h.more); quiet = h.quiet; passed = passed_fewer addresses s map r m k h.passed }
 
-  pub quiet_ones : (o : Out) → Rowed addresses n s map r m q t k w y o → Ones addresses n s map r m q t k y
-  quiet_ones (out.Done u) h = record { few = h.few; quiet = h.quiet; passed = h.passed }
-  quiet_ones (out.System x) h = halfway_ones (out.System x) h
-  quiet_ones out.Halt h = halfway_ones out.Halt h
-  quiet_ones (out.Resume a) h = halfway_ones (out.Resume a) h
-  quiet_ones (out.Alarm x a) h = halfway_ones (out.Alarm x a) h.0
-
--- the numbers of all ends but Done
-abbrev unquiet : List ℕ
-unquiet = 1 ∷ 2 ∷ 3 ∷ 4 ∷ []
+  pub quiet_ones : (o : Result Out Fault) → Rowed addresses n s map r m q t k w y o
+      → Ones addresses n s map r m q t k y
+  quiet_ones (Ok (out.Done u)) h = record { few = h.few; quiet = h.quiet; passed = h.passed }
+  quiet_ones (Ok (out.System x)) h = halfway_ones (Ok (out.System x)) h
+  quiet_ones (Ok out.Halt) h = halfway_ones (Ok out.Halt) h
+  quiet_ones (Ok (out.Resume a)) h = halfway_ones (Ok (out.Resume a)) h
+  quiet_ones (Err e) h = halfway_ones (Err e) h.0
 
 pub next_one : {addresses : List ℕ} {n s : ℕ} {map : Map} {r : Registers} {m : Memory} {q : Registers} {t k : ℕ}
-    {w : Registers} {y : Memory} (o : Out) → OneOf unquiet (tag_of Out.the_type o)
+    {w : Registers} {y : Memory} (o : Result Out Fault) → ((u : ℕ) → o ≡ Ok (out.Done u) → ⊥)
     → Rowed addresses n s map r m q t k w y o → Halfway addresses n s map r m q t k w y o
-next_one (out.Done u) l h = absurd (miss unquiet 0 tt l)
-next_one (out.System x) l h = h
-next_one out.Halt l h = h
-next_one (out.Resume a) l h = h
-next_one (out.Alarm x a) l h = h.0
+next_one (Ok (out.Done u)) l h = absurd (l u refl)
+next_one (Ok (out.System x)) l h = h
+next_one (Ok out.Halt) l h = h
+next_one (Ok (out.Resume a)) l h = h
+next_one (Err e) l h = h.0

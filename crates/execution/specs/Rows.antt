@@ -1,5 +1,6 @@
 -- Commands in a row, in the terms of `machine`: each runs after the one before has ended quietly.
-use Rattle.std.specs.Prelude.{ℕ, zero, suc, ◌+◌, ◌≤◌, ◌<◌, ◌≡◌, true, false, List, ◌⊎◌}
+use Rattle.std.specs.Prelude.{ℕ, zero, suc, ◌+◌, ◌≤◌, ◌<◌, ◌≡◌, true, false, List, ◌⊎◌, Result, Ok, Err}
+use Rattle.machine.specs.declared.Fault.{Fault}
 use Rattle.machine.specs.declared.Map.{Map}
 use Rattle.machine.specs.Words.{Memory}
 use Rattle.machine.specs.State.{Registers, reg}
@@ -48,16 +49,16 @@ module _ (addresses : List ℕ) where
   -- k of n commands ended quietly and left registers q, status t and memory y; the next did not, and
   -- ended so with registers w
   pub record Halfway (n s : ℕ) (map : Map) (r : Registers) (m : Memory) (q : Registers) (t k : ℕ) (w : Registers)
-      (y : Memory) (o : Out) : Type 0 where
+      (y : Memory) (o : Result Out Fault) : Type 0 where
     pub more : k < n
     pub quiet : command_done q t y ≡ in_row k s map r m
     pub passed : Passed addresses (k + 1) s map r m
     pub next : out_as o w y ≡ exec_of t map q y
 
   -- what n commands came to; o is how the one after the quiet ones ended, where one did
-  abbrev pub Rowed : ℕ → ℕ → Map → Registers → Memory → Registers → ℕ → ℕ → Registers → Memory → Out → Type 0
-  Rowed n s map r m q t k w y (out.Done u) = Paused n s map r m q t k y
-  Rowed n s map r m q t k w y (out.System x) = Halfway n s map r m q t k w y (out.System x)
-  Rowed n s map r m q t k w y out.Halt = Halfway n s map r m q t k w y out.Halt
-  Rowed n s map r m q t k w y (out.Resume a) = Halfway n s map r m q t k w y (out.Resume a)
-  Rowed n s map r m q t k w y (out.Alarm x a) = Halfway n s map r m q t k w y (out.Alarm x a) × (w ≡ q)
+  abbrev pub Rowed : ℕ → ℕ → Map → Registers → Memory → Registers → ℕ → ℕ → Registers → Memory → Result Out Fault → Type 0
+  Rowed n s map r m q t k w y (Ok (out.Done u)) = Paused n s map r m q t k y
+  Rowed n s map r m q t k w y (Ok (out.System x)) = Halfway n s map r m q t k w y (Ok (out.System x))
+  Rowed n s map r m q t k w y (Ok out.Halt) = Halfway n s map r m q t k w y (Ok out.Halt)
+  Rowed n s map r m q t k w y (Ok (out.Resume a)) = Halfway n s map r m q t k w y (Ok (out.Resume a))
+  Rowed n s map r m q t k w y (Err e) = Halfway n s map r m q t k w y (Err e) × (w ≡ q)

@@ -8,8 +8,7 @@ ghost use Rattle.execution.specs.Rows.{Rowed};
 ghost use Rattle.lookup.specs.Answers.{Fits};
 ghost use Rattle.watch.specs.Addresses.{Covers};
 
-use machine::Map;
-use quick::Quick;
+use machine::{Fault, Map};
 use results::Out;
 
 // What some commands came to: the registers and the status after those that ended quietly, which
@@ -22,20 +21,20 @@ pub struct Ended {
     pub status: u32,
     pub count: u64,
     pub work: [u32; 16],
-    pub out: Out,
+    pub out: Result<Out, Fault>,
 }
 
 // After the last command that ended quietly, and before the next.
 fn paused(registers: [u32; 16], status: u32, count: u64) -> Ended
     ensures { result ≡ record
-        { registers = registers; status = status; count = count; work = registers; out = Out.Done status } }
+        { registers = registers; status = status; count = count; work = registers; out = Ok (Out.Done status) } }
 {
     Ended {
         registers,
         status,
         count,
         work: registers,
-        out: Out::Done(status),
+        out: Ok(Out::Done(status)),
     }
 }
 
@@ -59,44 +58,21 @@ pub fn exec(
     let table = rules::table();
     let mut regs = registers;
     let mut now = status;
-    let mut count: u64 = 0;
-    while count < n {
-        let q = quick::command(mem, &mut regs, now, map, &table);
-        match q {
-            Quick::Done(s) => {
-                now = s;
-                count += 1;
-                if filter != 0 {
-                    if watch::met(watched, filter, regs[15]) {
-                        return paused(regs, now, count);
-                    }
-                }
-                continue;
-            }
-            Quick::Unsure => {}
-        }
-        let saved = regs;
-        let out = commands::command(mem, &mut regs, now, map, &table);
-        match out {
-            Out::Done(s) => {
-                now = s;
-                count += 1;
-                if filter != 0 {
-                    if watch::met(watched, filter, regs[15]) {
-                        return paused(regs, now, count);
-                    }
-                }
-            }
-            Out::Alarm(a, k) => {
+    for count in 0..n {
+        let mut quiet = quick::command(mem, &mut regs, now, map, &table);
+        if quiet.is_none() {
+            let saved = regs;
+            let out = commands::command(mem, &mut regs, now, map, &table);
+            let Ok(end) = out else {
                 return Ended {
                     registers: saved,
                     status: now,
                     count,
                     work: saved,
-                    out: Out::Alarm(a, k),
+                    out,
                 };
-            }
-            _ => {
+            };
+            let Out::Done(s) = end else {
                 return Ended {
                     registers: saved,
                     status: now,
@@ -104,8 +80,13 @@ pub fn exec(
                     work: regs,
                     out,
                 };
-            }
+            };
+            quiet = Some(s);
+        }
+        now = quiet.unwrap();
+        if filter != 0 && watch::met(watched, filter, regs[15]) {
+            return paused(regs, now, count + 1);
         }
     }
-    paused(regs, now, count)
+    paused(regs, now, n)
 }

@@ -1,51 +1,51 @@
 -- What a fetch says, in the terms of `machine`.
-use Rattle.std.specs.Prelude.{◌≡◌, ℕ, ◌+◌, ◌/◌, ◌%◌, ◌<◌}
+use Rattle.std.specs.Prelude.{◌≡◌, ℕ, ◌+◌, ◌/◌, ◌%◌, ◌<◌, Option, Some, None, Result, Ok, Err}
+use Rattle.machine.specs.declared.Fault.{Fault}
 use Rattle.machine.specs.declared.RealAddress.{RealAddress}
 use Rattle.machine.specs.declared.VirtualAddress.{VirtualAddress}
 use Rattle.machine.specs.declared.Access.TheVariants.{Fetch}
 use Rattle.machine.specs.Words.{Memory, byte_at, word_at}
-use Rattle.machine.specs.Alarms.{OrAlarm, got, alarm}
+use Rattle.machine.specs.Alarms.{OrAlarm, got, answered}
 use Rattle.machine.specs.Map.{found_at, View}
-use Rattle.machine.specs.Operands.{Fields, fields_at}
-use Rattle.fetches.specs.declared.CommandByte.{CommandByte}
-use Rattle.fetches.specs.declared.CommandByte.TheVariants as command_byte
-use Rattle.fetches.specs.declared.OperandBytes.{OperandBytes}
-use Rattle.fetches.specs.declared.OperandBytes.TheVariants as operand_bytes
-use Rattle.fetches.specs.declared.Nearby.{Nearby}
-use Rattle.fetches.specs.declared.Nearby.TheVariants as nearby
+use Rattle.machine.specs.Operands.{fields_at}
+use Rattle.machine.specs.Operands as operands
+use Rattle.fetches.specs.declared.fields.Fields.{Fields}
+use Rattle.fetches.specs.declared.Start.{Start}
 
 -- a command byte, wherever it lies
-abbrev pub command_byte_as : CommandByte → OrAlarm ℕ
-command_byte_as (command_byte.Byte b a) = got b
-command_byte_as (command_byte.Alarm x k) = alarm k x
+abbrev pub command_byte_as : Result (ℕ × RealAddress) Fault → OrAlarm ℕ
+command_byte_as r = answered (λ c. c.0) r
 
-abbrev pub ByteOrAlarm : CommandByte → Type 0
-ByteOrAlarm (command_byte.Byte b a) = b < 256
-ByteOrAlarm (command_byte.Alarm x k) = Unit {0}
+abbrev pub SmallByte : Result (ℕ × RealAddress) Fault → Type 0
+SmallByte (Ok c) = c.0 < 256
+SmallByte (Err e) = Unit {0}
 
--- the fetch at address x finds place a of memory m
-pub record FetchedFrom (v : View) (m : Memory) (x : VirtualAddress) (a : RealAddress) : Type 0 where
-  pub hit : v x Fetch ≡ got (found_at m a)
+-- the fetch at the command's address finds its place in memory m
+pub record FetchedFrom (v : View) (m : Memory) (c : Start) : Type 0 where
+  pub hit : v c.address Fetch ≡ got (found_at m c.place)
 
-abbrev pub PlaceOrAlarm : View → Memory → VirtualAddress → CommandByte → Type 0
-PlaceOrAlarm v m x (command_byte.Byte b a) = FetchedFrom v m x a
-PlaceOrAlarm v m x (command_byte.Alarm y k) = Unit {0}
+-- what was fetched at x starts a command
+abbrev pub StartOf : View → Memory → VirtualAddress → Result (ℕ × RealAddress) Fault → Type 0
+StartOf v m x (Ok c) = FetchedFrom v m (record { address = x; place = c.1 })
+StartOf v m x (Err e) = Unit {0}
 
-abbrev pub operand_bytes_as : OperandBytes → OrAlarm Fields
-operand_bytes_as (operand_bytes.Fields f q z) = got (record { form = f; x = q / 16; y = q % 16; z = z })
-operand_bytes_as (operand_bytes.Alarm x k) = alarm k x
+-- the fields of an operand
+abbrev pub named : Fields → operands.Fields
+named k = record { form = k.form; x = k.x; y = k.y; z = k.z }
+
+abbrev pub operand_bytes_as : Result Fields Fault → OrAlarm operands.Fields
+operand_bytes_as r = answered named r
 
 -- the six bytes from place a of memory on
-abbrev pub operand_bytes_at : Memory → ℕ → OperandBytes
-operand_bytes_at m a = operand_bytes.Fields (byte_at m a) (byte_at m (a + 1)) (word_at m (a + 2))
-
--- a register pair that was fetched is a byte
-abbrev pub PairOrAlarm : OperandBytes → Type 0
-PairOrAlarm (operand_bytes.Fields f q z) = q < 256
-PairOrAlarm (operand_bytes.Alarm x k) = Unit {0}
+abbrev pub operand_bytes_at : Memory → ℕ → operands.Fields
+operand_bytes_at m a = record {
+  form = byte_at m a;
+  x = byte_at m (a + 1) / 16;
+  y = byte_at m (a + 1) % 16;
+  z = word_at m (a + 2);
+}
 
 -- the six bytes from address x on, where they are told
-abbrev pub NearOf : View → VirtualAddress → Nearby → Type 0
-NearOf v x (nearby.Fields f q z) =
-    (got (record { form = f; x = q / 16; y = q % 16; z = z }) ≡ fields_at v x.0) × (q < 256)
-NearOf v x nearby.Elsewhere = Unit {0}
+abbrev pub NearOf : View → VirtualAddress → Option Fields → Type 0
+NearOf v x (Some k) = got (named k) ≡ fields_at v x.0
+NearOf v x None = Unit {0}

@@ -2,6 +2,7 @@
 use Prim.Native.Nat.{ℕ}
 use mathlib.Core.Path.{◌≡◌, refl}
 use mathlib.Core.Option.{Option, none, some}
+use Rattle.std.specs.Prelude.{Ok}
 use Rattle.machine.specs.declared.Alarm.{Alarm}
 use Rattle.machine.specs.declared.Kind.{Kind}
 use Rattle.machine.specs.Words.{Memory}
@@ -30,7 +31,7 @@ module _ (s : ℕ) (m : Memory) (v : View) (r : Registers) (b : ℕ) where
   alarm_known (some k) n x h = rw (← h)
 
   done_end_lem : (c : FloatCommand) (k : Kind) (o : Operands)
-      → action_end s m v k o.registers o.target (command_action c k o.first o.second) ≡ done_end s m v
+      → action_end s m v k o.registers o.target (Ok (command_action c k o.first o.second)) ≡ done_end s m v
       (got (float_done c k o))
   unfolding float_done located commit
   done_end_lem (float.gives op) k o = refl

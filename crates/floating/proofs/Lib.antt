@@ -1,4 +1,3 @@
-pub mod Lengths
 pub mod Remaining
 pub mod Taking
 pub mod Laws

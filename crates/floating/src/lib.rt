@@ -4,47 +4,44 @@
 
 ghost use Rattle.std.specs.Prelude.{◌≡◌, ◌<◌, ◌≤◌, eqb};
 ghost use Rattle.doubles.specs.Answers.{bits_as};
-ghost use Rattle.fetches.specs.Answers.{FetchedFrom, PairOrAlarm, operand_bytes_as};
+ghost use Rattle.fetches.specs.Answers.{FetchedFrom, named};
 ghost use Rattle.floating.specs.Answers.{SmallOperands, SmallTaken, TakesMemory, float_action, float_taken_from};
 ghost use Rattle.floating.specs.Answers.{operands_as, taken_as};
-ghost use Rattle.forms.specs.Answers.{SmallLocation, SmallTarget, location_as};
+ghost use Rattle.forms.specs.Answers.{SmallLocation, SmallPlace, SmallTarget, located_at, location_as};
 ghost use Rattle.lookup.specs.Answers.{Fits};
 ghost use Rattle.machine.specs.Alarms.{got};
+ghost use Rattle.machine.specs.declared.Access.TheVariants.{Read};
 ghost use Rattle.machine.specs.Code.{read_by, written_to};
 ghost use Rattle.machine.specs.Commands.{float_command, float_stored};
 ghost use Rattle.machine.specs.FloatCode.{bits_in_register, bits_to_register, excluded, float_operand_at};
 ghost use Rattle.machine.specs.FloatCode.{float_operands_of, next_register};
 ghost use Rattle.machine.specs.Map.{read_bytes, view_by};
-ghost use Rattle.machine.specs.Operands.{fields_at};
+ghost use Rattle.machine.specs.Operands.{at};
 ghost use Rattle.machine.specs.Words.{bytes_of, kind_length, pick};
 ghost use Rattle.results.specs.Ends.{end_in, out_as};
 ghost use Rattle.rules.specs.Rules.{roles_in, table_of};
 ghost use Rattle.stores.specs.Answers.{stored_as, stored_in};
 
-use doubles::Bits;
-use fetches::{Nearby, OperandBytes};
+use fetches::{Fields, Start};
 use forms::Location;
 use machine::{
-    Access, Alarm, Arithmetic, FloatResult, Kind, Map, RealAddress, Role, Size, Target,
-    VirtualAddress,
+    Alarm, Arithmetic, Fault, FloatResult, Kind, Map, Role, Size, Target, VirtualAddress,
 };
-use reads::Got;
 use results::Out;
-use stores::Stored;
 
-// What one operand gives: its bits and where a result goes; or an alarm's argument and the alarm.
+// What one operand gives: its bits, and where a result goes.
 #[derive(Clone, Copy)]
-pub enum Taken {
-    Got(u64, Target),
-    Alarm(u32, Alarm),
+pub struct Taken {
+    pub bits: u64,
+    pub target: Target,
 }
 
-// What all operands give: the first's and the second's bits, and where the last one's result goes;
-// or an alarm's argument and the alarm.
+// What all operands give: the first's and the second's bits, and where the last one's result goes.
 #[derive(Clone, Copy)]
-pub enum Operands {
-    Ready(u64, u64, Target),
-    Alarm(u32, Alarm),
+pub struct Operands {
+    pub first: u64,
+    pub second: u64,
+    pub target: Target,
 }
 
 // What a floating command does with its operands' bits.
@@ -54,81 +51,42 @@ pub enum Action {
     Give(FloatResult),
     // New flags alone.
     Flags(u32),
-    Alarm(u32, Alarm),
 }
 
 // ---- Operands
 
 // Alarm 14 for form 1 with D, and in form 2 for register 15 with F, 14 or 15 with D.
-fn is_excluded(kind: Kind, form: u32, x: u32, y: u32, z: u32) -> bool
-    ensures { result ≡ excluded kind (record { form = form; x = x; y = y; z = z }) }
+fn is_excluded(kind: Kind, fields: Fields) -> bool
+    ensures { result ≡ excluded kind (named fields) }
 {
     match kind {
-        Kind::F => (form == 2) & (x == 15),
-        Kind::D => (form == 1) | ((form == 2) & (14 <= x)),
+        Kind::F => (fields.form == 2) & (fields.x == 15),
+        Kind::D => (fields.form == 1) | ((fields.form == 2) & (14 <= fields.x)),
     }
 }
 
-// The six bytes of an operand, after a byte that was fetched.
-fn fields(
-    mem: &[u8],
-    status: u32,
-    map: Map,
-    x: VirtualAddress,
-    start: VirtualAddress,
-    found: RealAddress,
-) -> OperandBytes
-    requires { Fits map mem.now × FetchedFrom (view_by status map mem.now) mem.now start found }
-    ensures value { operand_bytes_as result ≡ fields_at (view_by status map mem.now) x.0 }
-    ensures small { PairOrAlarm result }
-{
-    let n = fetches::near(mem, status, map, x, start, found);
-    match n {
-        Nearby::Fields(form, pair, z) => OperandBytes::Fields(form, pair, z),
-        Nearby::Elsewhere => fetches::fields_anew(mem, status, map, x),
-    }
-}
-
-// The operand whose six bytes begin at R15, of the command whose byte was fetched from start and
-// lies at found.
+// The operand whose six bytes begin at R15, of the command that starts there.
 fn operand(
     mem: &[u8],
     regs: &mut [u32; 16],
     status: u32,
     map: Map,
-    start: VirtualAddress,
-    found: RealAddress,
+    start: Start,
     kind: Kind,
     place: u32,
-) -> Location
-    requires { Fits map mem.now × FetchedFrom (view_by status map mem.now) mem.now start found }
+) -> Result<Location, Fault>
+    requires { Fits map mem.now × FetchedFrom (view_by status map mem.now) mem.now start }
     ensures location { location_as result regs.new
         ≡ float_operand_at (view_by status map mem.now) place kind regs.old }
     ensures small { SmallLocation result }
 {
     let pc = regs[15];
-    let f = fields(mem, status, map, VirtualAddress(pc), start, found);
-    match f {
-        OperandBytes::Fields(form, pair, z) => {
-            if is_excluded(kind, form, pair / 16, pair % 16, z) {
-                return Location::Alarm(place, Alarm::Operand);
-            }
-            regs[15] = words::plus(pc, 6);
-            forms::by_length(
-                mem,
-                regs,
-                status,
-                map,
-                kind.length(),
-                place,
-                form,
-                pair / 16,
-                pair % 16,
-                z,
-            )
-        }
-        OperandBytes::Alarm(a, n) => Location::Alarm(a, n),
+    let fields = fetches::operand_fields(mem, status, map, VirtualAddress(pc), start)?;
+    if is_excluded(kind, fields) {
+        return Err(forms::misplaced(place));
     }
+    regs[15] = words::plus(pc, 6);
+    forms::by_form(mem, regs, status, map, kind.length(), place, fields)
 }
 
 // The register after x.
@@ -180,18 +138,12 @@ fn target_for(role: Role, t: Target) -> Target
 }
 
 // The value of a kind at an address.
-fn read(mem: &[u8], status: u32, map: Map, kind: Kind, a: VirtualAddress) -> Bits
+fn read(mem: &[u8], status: u32, map: Map, kind: Kind, a: VirtualAddress) -> Result<u64, Fault>
     requires { Fits map mem.now }
-    ensures { bits_as result ≡ read_bytes (view_by status map mem.now) Access.Read (kind_length kind) a }
+    ensures { bits_as result ≡ read_bytes (view_by status map mem.now) Read (kind_length kind) a }
 {
     match kind {
-        Kind::F => {
-            let w = reads::read(mem, status, map, a, Size::W);
-            match w {
-                Got::Value(n) => Bits::Value(n as u64),
-                Got::Alarm(x, k) => Bits::Alarm(x, k),
-            }
-        }
+        Kind::F => Ok(wide(reads::read(mem, status, map, a, Size::W)?)),
         Kind::D => doubles::read(mem, status, map, a),
     }
 }
@@ -204,20 +156,18 @@ fn take_memory(
     kind: Kind,
     role: Role,
     a: VirtualAddress,
-) -> Taken
+) -> Result<Taken, Fault>
     requires { Fits map mem.now }
     ensures value { TakesMemory result (view_by status map mem.now) kind role a }
     ensures small { SmallTaken result }
 {
-    let goes = target_for(role, Target::Memory(a));
-    if !rules::reads(role) {
-        return Taken::Got(0, goes);
-    }
-    let v = read(mem, status, map, kind, a);
-    match v {
-        Bits::Value(n) => Taken::Got(n, goes),
-        Bits::Alarm(x, k) => Taken::Alarm(x, k),
-    }
+    let target = target_for(role, Target::Memory(a));
+    let bits = if rules::reads(role) {
+        read(mem, status, map, kind, a)?
+    } else {
+        0
+    };
+    Ok(Taken { bits, target })
 }
 
 // What an operand's role takes from it.
@@ -230,25 +180,27 @@ fn take(
     role: Role,
     place: u32,
     location: Location,
-) -> Taken
-    requires { Fits map mem.now × SmallLocation location }
+) -> Result<Taken, Fault>
+    requires { Fits map mem.now × SmallPlace location }
     ensures value { taken_as result
-        ≡ float_taken_from (view_by status map mem.now) place kind role (location_as location regs.now) }
+        ≡ float_taken_from (view_by status map mem.now) place kind role (at (located_at location) regs.now) }
     ensures small { SmallTaken result }
 {
     match location {
         Location::Immediate(z) => {
             if rules::writes(role) {
-                return Taken::Alarm(place, Alarm::Operand);
+                return Err(forms::misplaced(place));
             }
-            Taken::Got(bits_for(role, z as u64), Target::Nowhere)
+            Ok(Taken {
+                bits: bits_for(role, wide(z)),
+                target: Target::Nowhere,
+            })
         }
-        Location::Register(x) => {
-            let n = bits_for(role, in_register(regs, kind, x));
-            Taken::Got(n, target_for(role, Target::Register(x)))
-        }
+        Location::Register(x) => Ok(Taken {
+            bits: bits_for(role, in_register(regs, kind, x)),
+            target: target_for(role, Target::Register(x)),
+        }),
         Location::Memory(a) => take_memory(mem, status, map, kind, role, a),
-        Location::Alarm(a, n) => Taken::Alarm(a, n),
     }
 }
 
@@ -259,69 +211,66 @@ fn chosen(place: u32, own: u32, new: u64, old: u64) -> u64
     if place == own { new } else { old }
 }
 
-// The operands that follow the command byte, from R15 on; the byte was fetched from start and lies
-// at found.
+// The operands that follow the command byte, from R15 on.
 fn take_all(
     mem: &[u8],
     regs: &mut [u32; 16],
     status: u32,
     map: Map,
-    start: VirtualAddress,
-    found: RealAddress,
+    start: Start,
     kind: Kind,
     rules: u32,
-) -> Operands
-    requires { Fits map mem.now × FetchedFrom (view_by status map mem.now) mem.now start found
-        × (rules < 65536) }
+) -> Result<Operands, Fault>
+    requires { Fits map mem.now × FetchedFrom (view_by status map mem.now) mem.now start × (rules < 65536) }
     ensures value { operands_as result regs.new
         ≡ float_operands_of (view_by status map mem.now) kind (roles_in rules) regs.old }
     ensures small { SmallOperands result }
 {
-    let mut first: u64 = 0;
-    let mut second: u64 = 0;
-    let mut target = Target::Nowhere;
-    let mut place: u32 = 1;
-    let count = rules::count_in(rules);
+    let mut taken = Operands {
+        first: 0,
+        second: 0,
+        target: Target::Nowhere,
+    };
     let mut rest = rules;
-    while place <= count {
+    for place in 1..rules::count_in(rules) + 1 {
         let role = rules::role_in(rest);
-        let location = operand(mem, regs, status, map, start, found, kind, place);
-        let t = take(mem, regs, status, map, kind, role, place, location);
-        match t {
-            Taken::Got(n, goes) => {
-                first = chosen(place, 1, n, first);
-                second = chosen(place, 2, n, second);
-                target = goes;
-            }
-            Taken::Alarm(a, n) => {
-                return Operands::Alarm(a, n);
-            }
-        }
-        place += 1;
+        let location = operand(mem, regs, status, map, start, kind, place)?;
+        let t = take(mem, regs, status, map, kind, role, place, location)?;
+        taken = Operands {
+            first: chosen(place, 1, t.bits, taken.first),
+            second: chosen(place, 2, t.bits, taken.second),
+            target: t.target,
+        };
         rest = rest / 16;
     }
-    Operands::Ready(first, second, target)
+    Ok(taken)
 }
 
 // ---- The operation
 
 // The operation of a floating command byte, from the first two operands' bits; 12 for an unknown
 // byte.
-fn action_of(b: u32, kind: Kind, x: u64, y: u64) -> Action
+fn action_of(b: u32, kind: Kind, x: u64, y: u64) -> Result<Action, Fault>
     requires { (0x80 ≤ b) × (b < 256) }
     ensures { result ≡ float_action b kind x y }
 {
     let p = floats::value(kind, x);
     let q = floats::value(kind, y);
-    match b {
+    let action = match b {
         0x80..=0x81 | 0x84..=0x85 => Action::Give(floats::arithmetic(Arithmetic::Add, p, q)),
         0x88..=0x89 | 0x8C..=0x8D => Action::Give(floats::arithmetic(Arithmetic::Sub, p, q)),
         0x90..=0x91 | 0x94..=0x95 => Action::Give(floats::arithmetic(Arithmetic::Mult, p, q)),
         0x98..=0x99 | 0x9C..=0x9D => Action::Give(floats::arithmetic(Arithmetic::Div, p, q)),
         0xA0..=0xA1 => Action::Give(floats::moved(x, p)),
         0xA4..=0xA5 => Action::Flags(floats::compare(p, q)),
-        _ => Action::Alarm(b, Alarm::Command),
-    }
+        _ => {
+            return Err(Fault {
+                alarm: Alarm::Command,
+                argument: b,
+            });
+        }
+    };
+    Ok(action)
 }
 
 // ---- The result
@@ -345,7 +294,14 @@ fn to_register(regs: &mut [u32; 16], kind: Kind, x: u32, bits: u64)
 }
 
 // The bits of a kind to an address.
-fn store(mem: &mut [u8], status: u32, map: Map, kind: Kind, a: VirtualAddress, bits: u64) -> Stored
+fn store(
+    mem: &mut [u8],
+    status: u32,
+    map: Map,
+    kind: Kind,
+    a: VirtualAddress,
+    bits: u64,
+) -> Result<(), Fault>
     requires { Fits map mem.old }
     ensures { stored_as result mem.new
         ≡ stored_in status map mem.old a (bytes_of (kind_length kind) bits) }
@@ -365,56 +321,42 @@ fn put(
     kind: Kind,
     x: FloatResult,
     target: Target,
-) -> Out
+) -> Result<Out, Fault>
     requires { Fits map mem.old × SmallTarget target }
     ensures { out_as result regs.new mem.new
         ≡ end_in status map mem.old (λ v. got (float_stored kind x target regs.old)) }
 {
-    let s = results::with_flags(status, x.flags);
     match target {
-        Target::Nowhere => Out::Done(s),
-        Target::Register(i) => {
-            to_register(regs, kind, i, x.bits);
-            Out::Done(s)
-        }
-        Target::Memory(a) => {
-            let done = store(mem, status, map, kind, a, x.bits);
-            results::ended(done, s)
-        }
+        Target::Nowhere => {}
+        Target::Register(i) => to_register(regs, kind, i, x.bits),
+        Target::Memory(a) => store(mem, status, map, kind, a, x.bits)?,
     }
+    Ok(Out::Done(results::with_flags(status, x.flags)))
 }
 
 // ---- The command
 
-// The floating command whose byte b was fetched from start and lies at found, by the lent table of
-// rules; R15 is past the byte. Where it alarms the registers are of no account.
+// The floating command of byte b that starts there, by the lent table of rules; R15 is past the byte.
+// Where it alarms the registers are of no account.
 pub fn command(
     mem: &mut [u8],
     regs: &mut [u32; 16],
     status: u32,
     map: Map,
     table: &[u16; 166],
-    start: VirtualAddress,
-    found: RealAddress,
+    start: Start,
     b: u32,
-) -> Out
-    requires { Fits map mem.old × FetchedFrom (view_by status map mem.old) mem.old start found
+) -> Result<Out, Fault>
+    requires { Fits map mem.old × FetchedFrom (view_by status map mem.old) mem.old start
         × (table.now ≡ table_of) × (0x80 ≤ b) × (b < 256) }
     ensures { out_as result regs.new mem.new
         ≡ end_in status map mem.old (λ v. float_command b v regs.old) }
 {
     let rules = rules::float_rules_of(table, b);
     let kind = rules::kind_in(rules);
-    let o = take_all(mem, regs, status, map, start, found, kind, rules);
-    match o {
-        Operands::Alarm(a, n) => Out::Alarm(a, n),
-        Operands::Ready(x, y, target) => {
-            let what = action_of(b, kind, x, y);
-            match what {
-                Action::Give(v) => put(mem, regs, status, map, kind, v, target),
-                Action::Flags(f) => Out::Done(results::with_flags(status, f)),
-                Action::Alarm(a, n) => Out::Alarm(a, n),
-            }
-        }
+    let operands = take_all(mem, regs, status, map, start, kind, rules)?;
+    match action_of(b, kind, operands.first, operands.second)? {
+        Action::Give(x) => put(mem, regs, status, map, kind, x, operands.target),
+        Action::Flags(f) => Ok(Out::Done(results::with_flags(status, f))),
     }
 }

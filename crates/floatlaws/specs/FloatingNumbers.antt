@@ -1,7 +1,7 @@
 -- Document 02, F-6: "Bring F and D from document 000, 1.1.3". The rules are Floats, FloatCode and
 -- `float_command` of Commands. Here is what they say of every number, for both kinds at once, and
 -- worked results and steps. The proof is `floating_numbers` of proofs/FloatingNumbers.antt.
-use Rattle.std.specs.Prelude.{ℕ, ◌+◌, ◌-◌, ◌*◌, ◌/◌, ◌^◌, ◌≤◌, ◌<◌, ◌≡◌, ◌⊎◌, Bool, true, false, ◌&&◌, ◌||◌, List, [], ◌∷◌, ◌++◌, ℤ, Float, length, take, drop}
+use Rattle.std.specs.Prelude.{ℕ, ◌+◌, ◌-◌, ◌*◌, ◌/◌, ◌^◌, ◌≤◌, ◌<◌, ◌≡◌, ◌⊎◌, Bool, true, false, ◌&&◌, ◌||◌, List, [], ◌∷◌, ◌++◌, ℤ, Float, length, take, drop, Ok}
 use Rattle.std.specs.Float.{nan, inf, fin}
 use Rattle.std.specs.Float.Ieee.{neg, below, level, lt, eq, is_nan}
 use Rattle.std.specs.Float.Ieee.Exact.{HasValue}
@@ -9,7 +9,7 @@ use Rattle.machine.specs.declared.Arithmetic.{Arithmetic}
 use Rattle.machine.specs.declared.FloatResult.{FloatResult}
 use Rattle.machine.specs.declared.Kind.{Kind}
 use Rattle.machine.specs.declared.Kind.TheVariants.{F, D}
-use Rattle.machine.specs.declared.StepAnswer.TheVariants as step_answer
+use Rattle.machine.specs.declared.StepEvent.TheVariants as step_event
 use Rattle.machine.specs.declared.Target.TheVariants.{Register}
 use Rattle.machine.specs.Words.{kind_length, span, bytes_of}
 use Rattle.machine.specs.State.{Registers, bit, flag_n, flag_z, flag_v, flag_c}
@@ -92,7 +92,7 @@ raising x = 8 ∷ 16 * x ∷ 0 ∷ 0 ∷ 0 ∷ 0 ∷ []
 
 -- a step in user mode that ends in an alarm: what its kernel entry tells; the command is at 16
 abbrev pub Alarmed : ℕ → List ℕ → ℕ → Type 0
-Alarmed number code argument = told (pages_ran number 0 code) ≡ (step_answer.Entered number, argument, 16)
+Alarmed number code argument = told (pages_ran number 0 code) ≡ (Ok (step_event.Entered number), argument, 16)
 
 pub record FloatingNumbers : Type 0 where
   -- ---- Document 000, 1.1.3: "Man unterscheidet folgende 5 Fälle". "a) e = e_max ∧ f ≠ 0: w = not a
@@ -213,7 +213,7 @@ pub record FloatingNumbers : Type 0 where
   -- three operands, and in user mode: 3 less 1 is 2
   pub three_operands : register_after 5 (ran_on 0 (0x8C ∷ I 0x3F80_0000 ++ I 0x4040_0000 ++ R 5)) ≡ 0x4000_0000
   pub user_mode_lem : register_after 5 (pages_ran 0 0 (0x8C ∷ I 0x3F80_0000 ++ I 0x4040_0000 ++ R 5)) ≡ 0x4000_0000
-  pub no_alarm : (pages_ran 15 0 (0x9C ∷ I 0 ++ I 0x3F80_0000 ++ R 0)).reply.answer ≡ step_answer.Done
+  pub no_alarm : (pages_ran 15 0 (0x9C ∷ I 0 ++ I 0x3F80_0000 ++ R 0)).reply.answer ≡ Ok step_event.Done
   -- "MOVE keeps its bits": of a NaN with its sign set, flag V alone
   pub moved_nan : ShortGives 0xA0 0xFF80_0001 0 0xFF80_0001 2
   pub moved_nan_long : LongGives 0xA1 0xFFF0_0000_0000_0001 0 0xFFF0_0000_0000_0001 2

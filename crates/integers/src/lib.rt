@@ -5,11 +5,11 @@
 ghost use Rattle.std.specs.Prelude.{◌≡◌, not, ◌≤◌, ◌<◌};
 ghost use Rattle.std.specs.Int.Bits.{bit_and, bit_or, bit_xor};
 ghost use Rattle.machine.specs.Words.{pick, length_of, span};
-ghost use Rattle.machine.specs.State.{bit, flags as flagsFrom};
+ghost use Rattle.machine.specs.State.{bit, flags as flags_from};
 ghost use Rattle.machine.specs.Integers.{half, natural, negative, kept, signed, result_of};
-ghost use Rattle.machine.specs.Integers.{plain as plain_of, complement as complementOf};
+ghost use Rattle.machine.specs.Integers.{plain as plain_of, complement as complement_of};
 
-use machine::{Result, Size};
+use machine::{IntegerResult, Size};
 
 // The last L bytes.
 pub fn low(size: Size, x: u32) -> u32
@@ -72,23 +72,23 @@ fn number(b: bool, w: u32) -> u32
 }
 
 pub fn flags(n: bool, z: bool, v: bool, c: bool) -> u32
-    ensures value { result ≡ flagsFrom n z v c }
+    ensures value { result ≡ flags_from n z v c }
     ensures small { result < 16 }
 {
     number(n, 8) + number(z, 4) + number(v, 2) + number(c, 1)
 }
 
 // N and Z from the result.
-pub fn result(size: Size, x: u32, v: bool, c: bool) -> Result
+pub fn result(size: Size, x: u32, v: bool, c: bool) -> IntegerResult
     ensures value { result ≡ result_of (length_of size) x v c }
     ensures small { result.flags < 16 }
 {
     let f = flags(is_negative(size, x), x == 0, v, c);
-    Result { value: x, flags: f }
+    IntegerResult { value: x, flags: f }
 }
 
 // V = C = 0.
-pub fn plain(size: Size, x: u32) -> Result
+pub fn plain(size: Size, x: u32) -> IntegerResult
     ensures value { result ≡ plain_of (length_of size) x }
     ensures small { result.flags < 16 }
 {
@@ -96,7 +96,7 @@ pub fn plain(size: Size, x: u32) -> Result
 }
 
 pub fn complement(size: Size, a: u32) -> u32
-    ensures { result ≡ complementOf (length_of size) (natural (length_of size) a) }
+    ensures { result ≡ complement_of (length_of size) (natural (length_of size) a) }
 {
     let x = low(size, a);
     (span_of(size) - 1 - x as u64) as u32
@@ -110,20 +110,20 @@ pub fn extend(a: u32) -> u32
     if 128 <= x { x + 4294967040 } else { x }
 }
 
-pub fn or(size: Size, a: u32, b: u32) -> Result
+pub fn or(size: Size, a: u32, b: u32) -> IntegerResult
     ensures { result ≡ plain_of (length_of size) (bit_or (natural (length_of size) b) (natural (length_of size) a)) }
 {
     plain(size, low(size, b) | low(size, a))
 }
 
-pub fn and_not(size: Size, a: u32, b: u32) -> Result
+pub fn and_not(size: Size, a: u32, b: u32) -> IntegerResult
     ensures { result ≡ plain_of (length_of size)
-        (bit_and (natural (length_of size) b) (complementOf (length_of size) (natural (length_of size) a))) }
+        (bit_and (natural (length_of size) b) (complement_of (length_of size) (natural (length_of size) a))) }
 {
     plain(size, low(size, b) & complement(size, a))
 }
 
-pub fn xor(size: Size, a: u32, b: u32) -> Result
+pub fn xor(size: Size, a: u32, b: u32) -> IntegerResult
     ensures { result ≡ plain_of (length_of size) (bit_xor (natural (length_of size) b) (natural (length_of size) a)) }
 {
     plain(size, low(size, b) ^ low(size, a))

@@ -3,7 +3,7 @@ use Prim.Native.Nat.{ℕ, zero, suc, ◌<◌}
 use mathlib.Core.Path.{◌≡◌, refl, sym, ◌∙◌, ap}
 use mathlib.Core.Bool.{Bool, true, false, ◌&&◌}
 use mathlib.Core.List.{List, [], ◌++◌}
-use mathlib.Core.Option.{Option, none, some}
+use Rattle.std.specs.Prelude.{Option, Some, None}
 use native.Mathlib.Decide.{ℕ_discrete, dec_lt}
 use native.Mathlib.Omega.{arith}
 use borrow.Author.Tests.{eq-eqb, ne_eqb, eqb-true}
@@ -22,28 +22,28 @@ use Rattle.joint.specs.Effects.{Unequal}
 -- ---- Two last bytes
 
 same_swap : (x y : Option ℕ) → same_last x y ≡ same_last y x
-same_swap (some b) (some c) = go (ℕ_discrete b c)
+same_swap (Some b) (Some c) = go (ℕ_discrete b c)
   where
     go : Dec (b ≡ c) → eqb b c ≡ eqb c b
     go (yes e) = eq-eqb b c e ∙ sym (eq-eqb c b (sym e))
     go (no e) = ne_eqb b c e ∙ sym (ne_eqb c b (λ q. e (sym q)))
-same_swap (some b) none = refl
-same_swap none (some c) = refl
-same_swap none none = refl
+same_swap (Some b) None = refl
+same_swap None (Some c) = refl
+same_swap None None = refl
 
 same_itself : (x : Option ℕ) → same_last x x ≡ true
-same_itself (some b) = eq-eqb b b refl
-same_itself none = refl
+same_itself (Some b) = eq-eqb b b refl
+same_itself None = refl
 
 same_later : (x y : Option ℕ) → same_last x y ≡ true → later_or x y ≡ later_or y x
-same_later (some b) (some c) h = ap some (eqb-true b c h)
-same_later (some b) none h = refl
-same_later none (some c) h = refl
-same_later none none h = refl
+same_later (Some b) (Some c) h = ap Some (eqb-true b c h)
+same_later (Some b) None h = refl
+same_later None (Some c) h = refl
+same_later None None h = refl
 
 later_itself : (x : Option ℕ) → later_or x x ≡ x
-later_itself (some b) = refl
-later_itself none = refl
+later_itself (Some b) = refl
+later_itself None = refl
 
 -- ---- At every address
 
@@ -60,7 +60,7 @@ agree_itself (suc a) x = rw (agree_itself a x, same_itself (last_put a x))
 pub agree-none : (n : ℕ) (x : RealWrites) → agree n x [] ≡ true
 unfolding agree last_put
 agree-none zero x = refl
-agree-none (suc a) x = rw (agree-none a x, same_swap (last_put a x) none)
+agree-none (suc a) x = rw (agree-none a x, same_swap (last_put a x) None)
 
 -- below n, where it says so
 agree_below : (n : ℕ) (x y : RealWrites) → agree n x y ≡ true → (a : ℕ) → a < n
@@ -90,13 +90,13 @@ unequal_here : (a : ℕ) (first second : List ℕ)
     → (o : Option ℕ) → last_put a (puts_of first) ≡ o → (p : Option ℕ) → last_put a (puts_of second) ≡ p
     → (same_last o p && agree a (puts_of first) (puts_of second)) ≡ false
     → (agree a (puts_of first) (puts_of second) ≡ false → Unequal first second) → Unequal first second
-unequal_here a first second (some b) e (some c) f k below = go (ℕ_discrete b c)
+unequal_here a first second (Some b) e (Some c) f k below = go (ℕ_discrete b c)
   where
     go : Dec (b ≡ c) → Unequal first second
     go (yes q) = below (rw (eq-eqb b c q) at k)
     go (no q) = record { address = a; one = b; other = c; first_puts = e; second_puts = f; unequal = q }
-unequal_here a first second (some b) e none f k below = below k
-unequal_here a first second none e p f k below = below k
+unequal_here a first second (Some b) e None f k below = below k
+unequal_here a first second None e p f k below = below k
 
 -- where they do not, an address with two unequal bytes
 pub some_unequal : (n : ℕ) (first second : List ℕ) → agree n (puts_of first) (puts_of second) ≡ false
@@ -114,7 +114,7 @@ unequal_found n first second i u = go (agree n (puts_of first) (puts_of second))
     go : (b : Bool) → agree n (puts_of first) (puts_of second) ≡ b → b ≡ false
     go false e = refl
     go true e =
-        let k : same_last (some u.one) (some u.other) ≡ true =
+        let k : same_last (Some u.one) (Some u.other) ≡ true =
         rw (u.first_puts, u.second_puts) at (agree_at n (puts_of first) (puts_of second) i e u.address) in
         absurd (u.unequal (eqb-true u.one u.other k))
 
@@ -146,6 +146,6 @@ twice m x i =
     ∙ sym (commit_last x m a i))
 
 -- where they agree, the first one's last byte stands too
-pub first_stands : (x y : Option ℕ) (b old : ℕ) → x ≡ some b → same_last x y ≡ true → or_old (later_or y x) old ≡ b
-first_stands x (some c) b old e h = let k : same_last (some b) (some c) ≡ true = rw e at h in sym (eqb-true b c k)
-first_stands x none b old e h = rw e
+pub first_stands : (x y : Option ℕ) (b old : ℕ) → x ≡ Some b → same_last x y ≡ true → or_old (later_or y x) old ≡ b
+first_stands x (Some c) b old e h = let k : same_last (Some b) (Some c) ≡ true = rw e at h in sym (eqb-true b c k)
+first_stands x None b old e h = rw e

@@ -5,11 +5,11 @@ use mathlib.Core.Bool.{Bool, true, false}
 use mathlib.Core.List.{List, ◌++◌}
 use native.Mathlib.Omega.{arith}
 use lib.ListN.{length, length-replicate}
+use Rattle.std.specs.Prelude.{Ok, Err}
 use Rattle.machine.specs.Words.{Memory, byte_at}
 use Rattle.machine.specs.State.{allowed_length}
 use Rattle.machine.specs.Map.{commit}
-use Rattle.lists.specs.declared.LoadAnswer.{LoadAnswer}
-use Rattle.lists.specs.declared.LoadAnswer.TheVariants as load
+use Rattle.lists.specs.Refusals.{LoadAnswer}
 use Rattle.lists.specs.declared.LoadRefusal.{LoadRefusal}
 use Rattle.lists.specs.declared.LoadRefusal.TheVariants.{Length}
 use Rattle.lists.specs.Lists.{puts_of, later_or, last_put, or_old}
@@ -21,38 +21,37 @@ use Rattle.load.proofs.Outcomes.{list_loaded}
 use Rattle.clash.specs.Clashes.{same_last, agree, cleared}
 use Rattle.joint.specs.declared.JointRefusal.{JointRefusal}
 use Rattle.joint.specs.declared.JointRefusal.TheVariants.{Load, Scratch, Clash}
-use Rattle.joint.specs.declared.JointAnswer.{JointAnswer}
-use Rattle.joint.specs.declared.JointAnswer.TheVariants.{Accepted, Refused}
+use Rattle.joint.specs.Joint.{JointAnswer}
 use Rattle.joint.specs.Joint.{unless, after_list, long_enough, joint_refusal, loaded_both, loaded_both_by, joint_of}
 use Rattle.joint.specs.Effects.{Loads}
 use Rattle.joint.proofs.Agreement.{agree_at, both_last}
 
 -- ---- What an answer says
 
-pub refused_not_accepted : {k : JointRefusal} → Refused k ≡ Accepted → ⊥
+pub refused_not_accepted : {k : JointRefusal} → ◌≡◌ {A = JointAnswer} (Err k) (Ok tt) → ⊥
 refused_not_accepted {k} e = let z : ◌≡◌ {A = ℕ} 0 1 = cc in omega arith
 
-pub accepted_not_refused : {k : JointRefusal} → Accepted ≡ Refused k → ⊥
+pub accepted_not_refused : {k : JointRefusal} → ◌≡◌ {A = JointAnswer} (Ok tt) (Err k) → ⊥
 accepted_not_refused {k} e = refused_not_accepted (sym e)
 
 -- a list that may be loaded alone
 pub record MayLoad (m : Memory) (list : List ℕ) : Type 0 where
   pub allowed : allowed_length (length m) ≡ true
-  pub listed : list_refusal desk_pieces (length m) list ≡ load.Accepted
+  pub listed : list_refusal desk_pieces (length m) list ≡ Ok tt
 
 pub loads_facts : (m : Memory) (list : List ℕ) → Loads m list → MayLoad m list
 unfolding load_of load_refusal loaded_by
 loads_facts m list = go (allowed_length (length m)) refl (list_refusal desk_pieces (length m) list) refl
   where
     go : (a : Bool) → allowed_length (length m) ≡ a → (x : LoadAnswer) → list_refusal desk_pieces (length m) list ≡ x
-        → (loaded_by (lists.unless a Length x) (puts_of list) m).answer ≡ load.Accepted → MayLoad m list
-    go true p load.Accepted q e = record { allowed = p; listed = q }
-    go true p (load.Refused k) q e = record { allowed = p; listed = cc }
+        → (loaded_by (lists.unless a Length x) (puts_of list) m).answer ≡ Ok tt → MayLoad m list
+    go true p (Ok u) q e = record { allowed = p; listed = q }
+    go true p (Err k) q e = record { allowed = p; listed = cc }
     go false p x q e = record { allowed = cc; listed = cc }
 
 pub alone : (m : Memory) (list : List ℕ) → allowed_length (length m) ≡ true
-    → list_refusal desk_pieces (length m) list ≡ load.Accepted
-    → load_of desk_pieces m list ≡ loaded load.Accepted (commit (puts_of list) m)
+    → list_refusal desk_pieces (length m) list ≡ Ok tt
+    → load_of desk_pieces m list ≡ loaded (Ok tt) (commit (puts_of list) m)
 alone m list a h = sym (list_loaded desk_pieces m list a h)
 
 -- a load alone answers what is refused
@@ -62,19 +61,19 @@ unfolding load_of loaded_by
 load_answered m list = go (load_refusal desk_pieces (length m) list)
   where
     go : (x : LoadAnswer) → (loaded_by x (puts_of list) m).answer ≡ x
-    go load.Accepted = refl
-    go (load.Refused k) = refl
+    go (Ok u) = refl
+    go (Err k) = refl
 
 -- two lists that are loaded
 pub record Joined (m : Memory) (first second s : List ℕ) : Type 0 where
   pub allowed : allowed_length (length m) ≡ true
-  pub first_alone : list_refusal desk_pieces (length m) first ≡ load.Accepted
-  pub second_alone : list_refusal desk_pieces (length m) second ≡ load.Accepted
+  pub first_alone : list_refusal desk_pieces (length m) first ≡ Ok tt
+  pub second_alone : list_refusal desk_pieces (length m) second ≡ Ok tt
   pub room : long_enough (length m) (length s) ≡ true
   pub same : agree (length m) (puts_of first) (puts_of second) ≡ true
 
 module _ (m : Memory) (first second s : List ℕ) where
-  pub joined : joint_refusal (length m) first second (length s) ≡ Accepted → Joined m first second s
+  pub joined : joint_refusal (length m) first second (length s) ≡ Ok tt → Joined m first second s
   unfolding joint_refusal
   joined =
       go (allowed_length (length m)) refl (list_refusal desk_pieces (length m) first) refl
@@ -86,17 +85,17 @@ module _ (m : Memory) (first second s : List ℕ) where
           → (y : LoadAnswer) → list_refusal desk_pieces (length m) second ≡ y
           → (b : Bool) → long_enough (length m) (length s) ≡ b
           → (c : Bool) → agree (length m) (puts_of first) (puts_of second) ≡ c
-          → unless a (Load Length) (after_list x (after_list y (unless b Scratch (unless c Clash Accepted)))) ≡ Accepted
+          → unless a (Load Length) (after_list x (after_list y (unless b Scratch (unless c Clash (Ok tt))))) ≡ Ok tt
           → Joined m first second s
-      go true p load.Accepted f load.Accepted g true r true t e =
+      go true p (Ok u) f (Ok v) g true r true t e =
           record { allowed = p; first_alone = f; second_alone = g; room = r; same = t }
-      go true p load.Accepted f load.Accepted g true r false t e = absurd (refused_not_accepted e)
-      go true p load.Accepted f load.Accepted g false r c t e = absurd (refused_not_accepted e)
-      go true p load.Accepted f (load.Refused k) g b r c t e = absurd (refused_not_accepted e)
-      go true p (load.Refused k) f y g b r c t e = absurd (refused_not_accepted e)
+      go true p (Ok u) f (Ok v) g true r false t e = absurd (refused_not_accepted e)
+      go true p (Ok u) f (Ok v) g false r c t e = absurd (refused_not_accepted e)
+      go true p (Ok u) f (Err k) g b r c t e = absurd (refused_not_accepted e)
+      go true p (Err k) f y g b r c t e = absurd (refused_not_accepted e)
       go false p x f y g b r c t e = absurd (refused_not_accepted e)
 
-  pub clashed : joint_refusal (length m) first second (length s) ≡ Refused Clash
+  pub clashed : joint_refusal (length m) first second (length s) ≡ Err Clash
       → agree (length m) (puts_of first) (puts_of second) ≡ false
   unfolding joint_refusal
   clashed =
@@ -104,39 +103,39 @@ module _ (m : Memory) (first second s : List ℕ) where
       (long_enough (length m) (length s)) (agree (length m) (puts_of first) (puts_of second))
     where
       go : (a : Bool) (x y : LoadAnswer) (b c : Bool)
-          → unless a (Load Length) (after_list x (after_list y (unless b Scratch (unless c Clash Accepted))))
-          ≡ Refused Clash → c ≡ false
-      go true load.Accepted load.Accepted true false e = refl
-      go true load.Accepted load.Accepted true true e = absurd (accepted_not_refused e)
-      go true load.Accepted load.Accepted false c e = cc
-      go true load.Accepted (load.Refused k) b c e = cc
-      go true (load.Refused k) y b c e = cc
+          → unless a (Load Length) (after_list x (after_list y (unless b Scratch (unless c Clash (Ok tt)))))
+          ≡ Err Clash → c ≡ false
+      go true (Ok u) (Ok v) true false e = refl
+      go true (Ok u) (Ok v) true true e = absurd (accepted_not_refused e)
+      go true (Ok u) (Ok v) false c e = cc
+      go true (Ok u) (Err k) b c e = cc
+      go true (Err k) y b c e = cc
       go false x y b c e = cc
 
   -- what is refused, by what is refused of each alone
-  pub as_first : (k : LoadRefusal) → (load_of desk_pieces m first).answer ≡ load.Refused k
-      → joint_refusal (length m) first second (length s) ≡ Refused (Load k)
+  pub as_first : (k : LoadRefusal) → (load_of desk_pieces m first).answer ≡ Err k
+      → joint_refusal (length m) first second (length s) ≡ Err (Load k)
   unfolding joint_refusal load_refusal
   as_first k h =
       go (allowed_length (length m)) (list_refusal desk_pieces (length m) first) (sym (load_answered m first) ∙ h)
     where
-      go : (a : Bool) (x : LoadAnswer) → lists.unless a Length x ≡ load.Refused k
+      go : (a : Bool) (x : LoadAnswer) → lists.unless a Length x ≡ Err k
           → unless a (Load Length)
           (after_list x
           (after_list (list_refusal desk_pieces (length m) second)
           (unless (long_enough (length m) (length s)) Scratch
-          (unless (agree (length m) (puts_of first) (puts_of second)) Clash Accepted))))
-          ≡ Refused (Load k)
-      go true load.Accepted e = cc
-      go true (load.Refused j) e = cc
+          (unless (agree (length m) (puts_of first) (puts_of second)) Clash (Ok tt)))))
+          ≡ Err (Load k)
+      go true (Ok u) e = cc
+      go true (Err j) e = cc
       go false x e = cc
 
   module _ (f : MayLoad m first) where
-    pub as_second : (k : LoadRefusal) → (load_of desk_pieces m second).answer ≡ load.Refused k
-        → joint_refusal (length m) first second (length s) ≡ Refused (Load k)
+    pub as_second : (k : LoadRefusal) → (load_of desk_pieces m second).answer ≡ Err k
+        → joint_refusal (length m) first second (length s) ≡ Err (Load k)
     unfolding joint_refusal load_refusal
     as_second k h =
-        let e : list_refusal desk_pieces (length m) second ≡ load.Refused k =
+        let e : list_refusal desk_pieces (length m) second ≡ Err k =
         rw f.allowed at (sym (load_answered m second) ∙ h) in
         rw (f.allowed, f.listed, e)
 
@@ -144,7 +143,7 @@ module _ (m : Memory) (first second s : List ℕ) where
     pub by_both : MayLoad m second
         → joint_refusal (length m) first second (length s)
         ≡ unless (long_enough (length m) (length s)) Scratch
-        (unless (agree (length m) (puts_of first) (puts_of second)) Clash Accepted)
+        (unless (agree (length m) (puts_of first) (puts_of second)) Clash (Ok tt))
     unfolding joint_refusal
     by_both g = rw (f.allowed, f.listed, g.listed)
 
@@ -167,15 +166,15 @@ scratch_as_long Scratch s = refl
 scratch_as_long Clash s = rw length-replicate
 
 module _ (m : Memory) (first second s : List ℕ) where
-  pub when_refused : (k : JointRefusal) → joint_refusal (length m) first second (length s) ≡ Refused k
-      → joint_of m first second s ≡ loaded_both (Refused k) m (left_scratch k s)
+  pub when_refused : (k : JointRefusal) → joint_refusal (length m) first second (length s) ≡ Err k
+      → joint_of m first second s ≡ loaded_both (Err k) m (left_scratch k s)
   unfolding joint_of loaded_both_by
   when_refused (Load k) e = rw e
   when_refused Scratch e = rw e
   when_refused Clash e = rw e
 
-  pub when_loaded : joint_refusal (length m) first second (length s) ≡ Accepted
-      → joint_of m first second s ≡ loaded_both Accepted (commit (puts_of first ++ puts_of second) m) (cleared s)
+  pub when_loaded : joint_refusal (length m) first second (length s) ≡ Ok tt
+      → joint_of m first second s ≡ loaded_both (Ok tt) (commit (puts_of first ++ puts_of second) m) (cleared s)
   unfolding joint_of loaded_both_by
   when_loaded e = rw e
 
@@ -185,10 +184,10 @@ module _ (m : Memory) (first second s : List ℕ) where
     where
       go : (r : JointAnswer) → joint_refusal (length m) first second (length s) ≡ r
           → (joint_of m first second s).answer ≡ joint_refusal (length m) first second (length s)
-      go Accepted e = rw (when_loaded e, e)
-      go (Refused k) e = rw (when_refused k e, e)
+      go (Ok u) e = rw (when_loaded e, e)
+      go (Err k) e = rw (when_refused k e, e)
 
-  pub both_loaded : (joint_of m first second s).answer ≡ Accepted → Joined m first second s
+  pub both_loaded : (joint_of m first second s).answer ≡ Ok tt → Joined m first second s
   both_loaded h = joined m first second s (sym answered ∙ h)
 
   module _ (j : Joined m first second s) where

@@ -4,6 +4,7 @@ use mathlib.Core.Path.{◌≡◌, refl, sym, ◌∙◌, ap}
 use mathlib.Core.Bool.{Bool, true, false, true≢false}
 use mathlib.Core.List.{List}
 use lib.ListN.{length, length-replicate}
+use Rattle.std.specs.Prelude.{Ok, Err}
 use Rattle.machine.specs.Words.{Memory, byte_at}
 use Rattle.machine.proofs.Writes.{commit-length}
 use Rattle.lists.specs.Lists.{puts_of}
@@ -12,8 +13,7 @@ use Rattle.lists.proofs.Accepted.{passed}
 use Rattle.load.specs.Loading.{Loaded}
 use Rattle.clash.specs.Clashes.{agree}
 use Rattle.joint.specs.declared.JointRefusal.TheVariants.{Scratch, Clash}
-use Rattle.joint.specs.declared.JointAnswer.{JointAnswer}
-use Rattle.joint.specs.declared.JointAnswer.TheVariants.{Accepted, Refused}
+use Rattle.joint.specs.Joint.{JointAnswer}
 use Rattle.joint.specs.Joint.{unless, long_enough, joint_refusal}
 use Rattle.joint.specs.Effects.{Loads, Unequal, Answers, Leaves, Effects}
 use Rattle.joint.proofs.Agreement.{some_unequal, unequal_found, first_stands}
@@ -54,14 +54,14 @@ module _ (m : Memory) (first second s : List ℕ) where
       both : Loads m first → Loads m second
           → joint_refusal (length m) first second (length s)
           ≡ unless (long_enough (length m) (length s)) Scratch
-          (unless (agree (length m) (puts_of first) (puts_of second)) Clash Accepted)
+          (unless (agree (length m) (puts_of first) (puts_of second)) Clash (Ok tt))
       both f g = by_both m first second s (loads_facts m first f) (loads_facts m second g)
 
       inside : Loads m first → all_inside (length m) (puts_of first) ≡ true
       inside f = (passed desk_pieces (length m) first (loads_facts m first f).listed).inside
 
       unless_clash : (b : Bool) → agree (length m) (puts_of first) (puts_of second) ≡ b → (Unequal first second → ⊥)
-          → unless b Clash Accepted ≡ Accepted
+          → unless b Clash (Ok tt) ≡ Ok tt
       unless_clash true e none = refl
       unless_clash false e none = absurd (none (some_unequal (length m) first second e))
 
@@ -72,7 +72,7 @@ module _ (m : Memory) (first second s : List ℕ) where
   leaves = go (joint_refusal (length m) first second (length s)) refl
     where
       go : (r : JointAnswer) → joint_refusal (length m) first second (length s) ≡ r → Leaves m first second s
-      go Accepted e =
+      go (Ok u) e =
           let j = joined m first second s e in
           let d = when_loaded m first second s e in
           record {
@@ -89,7 +89,7 @@ module _ (m : Memory) (first second s : List ℕ) where
             memory_length = rw d (commit-length _ m);
             scratch_length = rw (d, length-replicate);
           }
-      go (Refused k) e =
+      go (Err k) e =
           let d = when_refused m first second s k e in
           record {
             first's = λ h. absurd (refused_not_accepted (rw d at h));
@@ -97,9 +97,9 @@ module _ (m : Memory) (first second s : List ℕ) where
             elsewhere = λ a p q. rw d;
             refused = λ i h. rw d;
             after-loading = λ h. absurd (refused_not_accepted (rw d at h));
-            after_clash = λ h. let q : Refused k ≡ Refused Clash = rw d at h in let z : k ≡ Clash = cc in rw (d, z);
+            after_clash = λ h. let q : ◌≡◌ {A = JointAnswer} (Err k) (Err Clash) = rw d at h in let z : k ≡ Clash = cc in rw (d, z);
             otherwise = λ i n h.
-                let q : Refused k ≡ Refused i = rw d at h in
+                let q : ◌≡◌ {A = JointAnswer} (Err k) (Err i) = rw d at h in
                 rw d (kept_scratch k s (λ z. n cc));
             memory_length = rw d;
             scratch_length = rw d (scratch_as_long k s);

@@ -5,6 +5,7 @@ use mathlib.Core.Path.{◌≡◌, refl}
 use mathlib.Core.List.{List, [], ◌∷◌}
 use lib.ListN.{replicate}
 use lib.Seq.{sets}
+use Rattle.std.specs.Prelude.{Ok, Err}
 use Rattle.machine.specs.Words.{Memory, word_at}
 use Rattle.machine.specs.State.{allowed_length}
 use Rattle.machine.specs.Map.{real_writes_from, commit}
@@ -14,7 +15,6 @@ use Rattle.lists.specs.Lists.{well_formed, last_put}
 use Rattle.lists.specs.Refusals.{all_inside, list_refusal}
 use Rattle.clash.specs.Clashes.{agree}
 use Rattle.joint.specs.declared.JointRefusal.TheVariants.{Load, Scratch, Clash}
-use Rattle.joint.specs.declared.JointAnswer.TheVariants.{Accepted, Refused}
 use Rattle.joint.specs.Joint.{joint_refusal, LoadedBoth, loaded_both, loaded_both_by, joint_of}
 
 -- a joint load, with every definition unfolded that it computes with
@@ -45,26 +45,26 @@ cut = 0x02 ∷ 9 ∷ []
 -- a memory of 512 bytes of 5, a scratch of 513 bytes of 7: an earlier byte that differs is no clash, and all
 -- of the scratch becomes zeros
 pub loads_both : whole_joint (replicate 512 5) one other (replicate 513 7)
-    ≡ loaded_both Accepted (sets (replicate 512 5) 0 (1 ∷ 2 ∷ 3 ∷ 0 ∷ 8 ∷ [])) (replicate 513 0)
+    ≡ loaded_both (Ok tt) (sets (replicate 512 5) 0 (1 ∷ 2 ∷ 3 ∷ 0 ∷ 8 ∷ [])) (replicate 513 0)
 unfolding whole_joint
 loads_both = refl
 
 -- 23: the memory stays, the scratch does not
 pub refuses_clash : whole_joint (replicate 512 5) one unlike (replicate 513 7)
-    ≡ loaded_both (Refused Clash) (replicate 512 5) (replicate 513 0)
+    ≡ loaded_both (Err Clash) (replicate 512 5) (replicate 513 0)
 unfolding whole_joint
 refuses_clash = refl
 
 -- 22 comes before 23, and touches nothing
 pub refuses_short : whole_joint (replicate 512 5) one unlike (replicate 511 7)
-    ≡ loaded_both (Refused Scratch) (replicate 512 5) (replicate 511 7)
+    ≡ loaded_both (Err Scratch) (replicate 512 5) (replicate 511 7)
 unfolding whole_joint
 refuses_short = refl
 
 -- the first list's 19 comes before the second's 17, and both before 22
 pub first_list_first :
-    (whole_joint (replicate 512 5) past cut [] ≡ loaded_both (Refused (Load Outside)) (replicate 512 5) [])
-    × (whole_joint (replicate 512 5) cut past [] ≡ loaded_both (Refused (Load Malformed)) (replicate 512 5) [])
-    × (whole_joint (replicate 512 5) one past [] ≡ loaded_both (Refused (Load Outside)) (replicate 512 5) [])
+    (whole_joint (replicate 512 5) past cut [] ≡ loaded_both (Err (Load Outside)) (replicate 512 5) [])
+    × (whole_joint (replicate 512 5) cut past [] ≡ loaded_both (Err (Load Malformed)) (replicate 512 5) [])
+    × (whole_joint (replicate 512 5) one past [] ≡ loaded_both (Err (Load Outside)) (replicate 512 5) [])
 unfolding whole_joint
 first_list_first = (refl, refl, refl)

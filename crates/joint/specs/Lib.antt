@@ -5,5 +5,3 @@
 pub mod Joint
 -- what the request says of it, by theorems
 pub mod Effects
--- not the request: the refusals in two parts
-pub mod Parts

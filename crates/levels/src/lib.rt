@@ -32,14 +32,10 @@ fn due(pending: u16, level: u32) -> u32
     ensures value { result ≡ dueOf 15 pending level }
     ensures small { result ≤ 15 }
 {
-    let p = pending as u32;
-    let mut k: u32 = 15;
-    while 0 < k {
-        let bit = (p >> k) % 2;
-        if bit == 1 && level < k {
+    for k in (1..16).rev() {
+        if (pending >> k) % 2 == 1 && level < k {
             return k;
         }
-        k -= 1;
     }
     0
 }
@@ -49,11 +45,9 @@ pub fn interrupt(status: u32, pending: u16) -> u32
     ensures value { result ≡ interrupt_of status pending }
     ensures small { result ≤ 15 }
 {
-    if pending == 0 {
-        return 0;
+    if pending != 0 && status < 0x8000_0000 {
+        due(pending, status / 16 % 16)
+    } else {
+        0
     }
-    if status < 0x8000_0000 {
-        return due(pending, status / 16 % 16);
-    }
-    0
 }

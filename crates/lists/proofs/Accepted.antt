@@ -4,8 +4,8 @@ use mathlib.Core.Path.{◌≡◌, refl}
 use mathlib.Core.Bool.{Bool, true, false}
 use mathlib.Core.List.{List}
 use lib.Dec.{leb}
+use Rattle.std.specs.Prelude.{Ok}
 use Rattle.lists.specs.declared.LoadRefusal.TheVariants.{Malformed, Pieces, Outside}
-use Rattle.lists.specs.declared.LoadAnswer.TheVariants.{Accepted}
 use Rattle.lists.specs.Lists.{well_formed, pieces_of, puts_of}
 use Rattle.lists.specs.Refusals.{all_inside, unless, list_refusal}
 
@@ -14,13 +14,13 @@ pub record Passed (limit n : ℕ) (list : List ℕ) : Type 0 where
   pub few : leb (pieces_of list) limit ≡ true
   pub inside : all_inside n (puts_of list) ≡ true
 
-pub passed : (limit n : ℕ) (list : List ℕ) → list_refusal limit n list ≡ Accepted → Passed limit n list
+pub passed : (limit n : ℕ) (list : List ℕ) → list_refusal limit n list ≡ Ok tt → Passed limit n list
 unfolding list_refusal
 passed limit n list h =
     let r = go (well_formed list) (leb (pieces_of list) limit) (all_inside n (puts_of list)) h in
     record { whole = r.0; few = r.1; inside = r.2 }
   where
-    go : (a b c : Bool) → unless a Malformed (unless b Pieces (unless c Outside Accepted)) ≡ Accepted
+    go : (a b c : Bool) → unless a Malformed (unless b Pieces (unless c Outside (Ok tt))) ≡ Ok tt
         → (a ≡ true) × (b ≡ true) × (c ≡ true)
     go true true true e = (refl, refl, refl)
     go true true false e = (refl, refl, cc)

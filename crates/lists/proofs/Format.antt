@@ -12,14 +12,14 @@ use borrow.Author.Tests.{le-leb, leb-true, eqb-true, eq-eqb}
 use lib.Dec.{leb, eqb}
 use lib.ListN.{length, drop, length-append}
 use lib.Seq.{drop-cons, drop-length, get_or-append-add}
+use Rattle.std.specs.Prelude.{Some, None, Ok, Err}
 use Rattle.machine.specs.Words.{pick, byte_at, bytes_of, word_at}
 use Rattle.machine.proofs.Bytes.{word_of_bytes}
 use Rattle.words.proofs.Bytes.{two_bytes_back, four_bytes_back}
 use Rattle.lists.specs.declared.Command.{Command}
 use Rattle.lists.specs.declared.Command.TheVariants.{Move, Byte, Four, Copies}
-use Rattle.lists.specs.declared.Next.{Next}
-use Rattle.lists.specs.declared.Next.TheVariants.{End, More, Unreadable}
-use Rattle.lists.specs.Lists.{width_of, width_in, next_at, Reading, malformed, commands, followed, reading_from}
+use Rattle.lists.specs.declared.LoadRefusal.TheVariants.{Malformed}
+use Rattle.lists.specs.Lists.{width_of, Next, width_in, next_at, Reading, malformed, commands, followed, reading_from}
 use Rattle.lists.specs.Lists.{bytes_of_command, list_of, reading_of}
 use Rattle.lists.specs.Format.{HasRoom, AllHaveRoom, AllBytes, Format}
 use Rattle.lists.proofs.Reading.{whole, at_00, at_01, at_02, at_03, at_04, at_unknown, width_positive}
@@ -91,38 +91,38 @@ module _ (list : List ℕ) (small : AllBytes list) where
     )
 
     -- what stands whole at its place
-    of_whole : (width : ℕ) (y x : Next) → next_at list at ≡ whole list at width y → next_at list at ≡ x → x ≢ Unreadable
+    of_whole : (width : ℕ) (y x : Next) → next_at list at ≡ whole list at width y → next_at list at ≡ x → x ≢ Err Malformed
         → (at + width ≤ length list) × (y ≡ x)
     of_whole width y x e h n = go (leb (at + width) (length list)) refl (sym e ∙ h)
       where
-        go : (b : Bool) → leb (at + width) (length list) ≡ b → pick b y Unreadable ≡ x
+        go : (b : Bool) → leb (at + width) (length list) ≡ b → pick b y (Err Malformed) ≡ x
             → (at + width ≤ length list) × (y ≡ x)
         go true l q = (leb-true (at + width) (length list) l, q)
         go false l q = absurd (n (sym q))
 
-    end-unlike : (c : Command) → End ≢ More c
+    end-unlike : (c : Command) → ◌≢◌ {A = Next} (Ok None) (Ok (Some c))
     end-unlike c e = let z : ◌≡◌ {A = ℕ} 0 1 = cc in omega arith
 
-    none-unlike : (c : Command) → More c ≢ Unreadable
+    none-unlike : (c : Command) → ◌≢◌ {A = Next} (Ok (Some c)) (Err Malformed)
     none-unlike c e = let z : ◌≡◌ {A = ℕ} 0 1 = cc in omega arith
 
     -- a command
-    more_stands : (c : Command) → next_at list at ≡ More c → Stands at c
+    more_stands : (c : Command) → next_at list at ≡ Ok (Some c) → Stands at c
     more_stands c h =
         go (ℕ_discrete (byte_at list at) 0) (ℕ_discrete (byte_at list at) 1) (ℕ_discrete (byte_at list at) 2)
         (ℕ_discrete (byte_at list at) 3) (ℕ_discrete (byte_at list at) 4)
       where
-        is : (width : ℕ) (d : Command) → next_at list at ≡ whole list at width (More d)
+        is : (width : ℕ) (d : Command) → next_at list at ≡ whole list at width (Ok (Some d))
             → (at + width ≤ length list → Stands at d) → Stands at c
         is width d e s =
-            let w = of_whole width (More d) (More c) e h (none-unlike c) in
-            let same : d ≡ c = let q : More d ≡ More c = w.1 in cc in
+            let w = of_whole width (Ok (Some d)) (Ok (Some c)) e h (none-unlike c) in
+            let same : d ≡ c = let q : ◌≡◌ {A = Next} (Ok (Some d)) (Ok (Some c)) = w.1 in cc in
             rw same at (s w.0)
 
         go : Dec (byte_at list at ≡ 0) → Dec (byte_at list at ≡ 1) → Dec (byte_at list at ≡ 2) → Dec (byte_at list at ≡ 3)
             → Dec (byte_at list at ≡ 4) → Stands at c
         go (yes e) b2 b3 b4 b5 =
-            absurd (end-unlike c (of_whole 1 End (More c) (at_00 list at e) h (none-unlike c)).1)
+            absurd (end-unlike c (of_whole 1 (Ok None) (Ok (Some c)) (at_00 list at e) h (none-unlike c)).1)
         go (no b1) (yes e) b3 b4 b5 =
             is 5 (Move (record { 0 = word_at list (at + 1) })) (at_01 list at e) (move_stands e)
         go (no b1) (no b2) (yes e) b4 b5 = is 2 (Byte (byte_at list (at + 1))) (at_02 list at e) (byte_stands e)
@@ -135,16 +135,16 @@ module _ (list : List ℕ) (small : AllBytes list) where
         go (no b1) (no b2) (no b3) (no b4) (no b5) = absurd (none-unlike c (sym h ∙ at_unknown list at (omega arith)))
 
     -- the end
-    end_byte : next_at list at ≡ End → byte_at list at ≡ 0x00
+    end_byte : next_at list at ≡ Ok None → byte_at list at ≡ 0x00
     end_byte h =
         go (ℕ_discrete (byte_at list at) 0) (ℕ_discrete (byte_at list at) 1) (ℕ_discrete (byte_at list at) 2)
         (ℕ_discrete (byte_at list at) 3) (ℕ_discrete (byte_at list at) 4)
       where
-        differs : End ≢ Unreadable
+        differs : ◌≢◌ {A = Next} (Ok None) (Err Malformed)
         differs e = let z : ◌≡◌ {A = ℕ} 0 1 = cc in omega arith
 
-        no_more : (width : ℕ) (d : Command) → next_at list at ≡ whole list at width (More d) → byte_at list at ≡ 0x00
-        no_more width d e = absurd (end-unlike d (sym (of_whole width (More d) End e h differs).1))
+        no_more : (width : ℕ) (d : Command) → next_at list at ≡ whole list at width (Ok (Some d)) → byte_at list at ≡ 0x00
+        no_more width d e = absurd (end-unlike d (sym (of_whole width (Ok (Some d)) (Ok None) e h differs).1))
 
         go : Dec (byte_at list at ≡ 0) → Dec (byte_at list at ≡ 1) → Dec (byte_at list at ≡ 2) → Dec (byte_at list at ≡ 3)
             → Dec (byte_at list at ≡ 4) → byte_at list at ≡ 0x00
@@ -155,7 +155,7 @@ module _ (list : List ℕ) (small : AllBytes list) where
         go (no b1) (no b2) (no b3) (no b4) (yes e) = no_more _ _ (at_04 list at e)
         go (no b1) (no b2) (no b3) (no b4) (no b5) = absurd (differs (sym h ∙ at_unknown list at (omega arith)))
 
-    end_stands : next_at list at ≡ End → at + 1 ≡ length list → drop at list ≡ 0x00 ∷ []
+    end_stands : next_at list at ≡ Ok None → at + 1 ≡ length list → drop at list ≡ 0x00 ∷ []
     end_stands h l = rw (next at (at + 1) refl (omega arith), end_byte h, l, drop-length)
 
   -- from any offset on
@@ -173,15 +173,15 @@ module _ (list : List ℕ) (small : AllBytes list) where
           → followed x (eqb (at + 1) (length list)) r ≡ commands cs
           → ((ds : List Command) → reading_from n list (at + width_in x) ≡ commands ds → RestWritten (at + width_in x) ds)
           → RestWritten at cs
-      go (More c) e malformed f h k = absurd (let z : ◌≡◌ {A = ℕ} 0 1 = cc in omega arith)
-      go (More c) e (commands ds) f h k =
+      go (Ok (Some c)) e malformed f h k = absurd (let z : ◌≡◌ {A = ℕ} 0 1 = cc in omega arith)
+      go (Ok (Some c)) e (commands ds) f h k =
           let same : c ∷ ds ≡ cs = cc in
           let first = more_stands at c e in
           rw (← same) (first.0 ∙ rw (k ds f).0, (first.1, (k ds f).1))
-      go Unreadable e r f h k = absurd (let z : ◌≡◌ {A = ℕ} 0 1 = cc in omega arith)
-      go End e r f h k = ends (eqb (at + 1) (length list)) refl h
+      go (Err u) e r f h k = absurd (let z : ◌≡◌ {A = ℕ} 0 1 = cc in omega arith)
+      go (Ok None) e r f h k = ends (eqb (at + 1) (length list)) refl h
         where
-          ends : (b : Bool) → eqb (at + 1) (length list) ≡ b → followed End b r ≡ commands cs → RestWritten at cs
+          ends : (b : Bool) → eqb (at + 1) (length list) ≡ b → followed (Ok None) b r ≡ commands cs → RestWritten at cs
           ends true l q =
               let same : [] ≡ cs = cc in
               rw (← same) (end_stands at e (eqb-true (at + 1) (length list) l), tt)
@@ -233,7 +233,7 @@ count_read : (n : ℕ) → n < 0x1_0000 → n / 256 % 256 * 256 + n / 1 % 256 �
 count_read n h = omega arith
 
 command_read : (p : List ℕ) (c : Command) (q : List ℕ) → HasRoom c
-    → next_at (p ++ (bytes_of_command c ++ q)) (length p) ≡ More c
+    → next_at (p ++ (bytes_of_command c ++ q)) (length p) ≡ Ok (Some c)
 unfolding bytes_of
 command_read p (Move a) q w =
     let r = bytes_of_command (Move a) ++ q in
@@ -257,7 +257,7 @@ rest_read : (p : List ℕ) (cs : List Command) (n : ℕ) → AllHaveRoom cs → 
 unfolding reading_from followed list_of
 rest_read p cs zero w h = absurd (omega arith)
 rest_read p [] (suc n) w h =
-    let e : next_at (p ++ 0x00 ∷ []) (length p) ≡ End =
+    let e : next_at (p ++ 0x00 ∷ []) (length p) ≡ Ok None =
     at_00 _ _ (first_behind p (0x00 ∷ [])) ∙ whole_behind p (0x00 ∷ []) 1 _ (omega arith)
     in
     let l : length p + 1 ≡ length (p ++ 0x00 ∷ []) = simp length-append in

@@ -10,28 +10,28 @@ use native.Mathlib.Omega.{arith}
 use borrow.Author.Tests.{le-leb, lt-leb}
 use lib.Dec.{leb}
 use lib.ListN.{length}
+use Rattle.std.specs.Prelude.{Some, None, Ok, Err}
 use Rattle.machine.specs.Map.{real_writes_from}
 use Rattle.lists.specs.declared.Command.{Command}
 use Rattle.lists.specs.declared.Command.TheVariants.{Move, Byte, Four, Copies}
-use Rattle.lists.specs.declared.Next.TheVariants.{End, More, Unreadable}
+use Rattle.lists.specs.declared.LoadRefusal.{LoadRefusal}
 use Rattle.lists.specs.declared.LoadRefusal.TheVariants.{Malformed, Pieces, Outside}
-use Rattle.lists.specs.declared.LoadAnswer.{LoadAnswer}
-use Rattle.lists.specs.declared.LoadAnswer.TheVariants.{Accepted, Refused}
 use Rattle.lists.specs.Lists.{width_of, next_at, Reading, malformed, commands, before, reading_of}
 use Rattle.lists.specs.Lists.{put_bytes, place_after, puts_from, piece_count, pieces_in, commands_in, well_formed_in}
 use Rattle.lists.specs.Lists.{well_formed, pieces_of, puts_of}
-use Rattle.lists.specs.Refusals.{all_inside, unless, list_refusal}
+use Rattle.lists.specs.Refusals.{all_inside, LoadAnswer, unless, list_refusal}
 use Rattle.lists.proofs.Puts.{and_later, and_false, and_true, inside_append}
 use Rattle.lists.proofs.Reading.{rest_from, rest_more, rest_ends, rest_goes_on, rest_unreadable, rest_all}
+use Rattle.lists.proofs.Reading.{unreadable_malformed}
 
 -- ---- What is left of a list
 
 -- judged from the place, the pieces so far, and whether the puts so far are inside
 pub judged : ℕ → ℕ → ℕ → ℕ → Bool → Reading → LoadAnswer
-judged limit n place pieces inside malformed = Refused Malformed
+judged limit n place pieces inside malformed = Err Malformed
 judged limit n place pieces inside (commands cs) =
     unless (leb (pieces + pieces_in cs) limit) Pieces
-    (unless (inside && all_inside n (puts_from place cs)) Outside Accepted)
+    (unless (inside && all_inside n (puts_from place cs)) Outside (Ok tt))
 
 module _ (limit n : ℕ) where
   pub judged_all : (list : List ℕ) → judged limit n 0 0 true (rest_from list 0) ≡ list_refusal limit n list
@@ -41,38 +41,38 @@ module _ (limit n : ℕ) where
       go : (r : Reading) → judged limit n 0 0 true r
           ≡ unless (well_formed_in r) Malformed
           (unless (leb (pieces_in (commands_in r)) limit) Pieces
-          (unless (all_inside n (puts_from 0 (commands_in r))) Outside Accepted))
+          (unless (all_inside n (puts_from 0 (commands_in r))) Outside (Ok tt)))
       go malformed = refl
       go (commands cs) = rw zero-add
 
   module _ (place pieces : ℕ) (list : List ℕ) (at : ℕ) where
     -- the list ends here, with its last byte or before it; or it can't be read on
-    module _ (here : next_at list at ≡ End) (last : at + 1 ≡ length list) where
+    module _ (here : next_at list at ≡ Ok None) (last : at + 1 ≡ length list) where
       at-end : (inside : Bool) → judged limit n place pieces inside (rest_from list at)
-          ≡ unless (leb pieces limit) Pieces (unless inside Outside Accepted)
+          ≡ unless (leb pieces limit) Pieces (unless inside Outside (Ok tt))
       unfolding judged pieces_in puts_from all_inside
       at-end inside = rw (rest_ends list at here last, add-zero, and_true)
 
       pub judged_pieces : (inside : Bool) → limit < pieces
-          → Refused Pieces ≡ judged limit n place pieces inside (rest_from list at)
+          → Err Pieces ≡ judged limit n place pieces inside (rest_from list at)
       judged_pieces inside h = rw (at-end inside, lt-leb _ _ h)
 
       pub judged_last : (inside : Bool) → pieces ≤ limit
-          → unless inside Outside Accepted ≡ judged limit n place pieces inside (rest_from list at)
+          → unless inside Outside (Ok tt) ≡ judged limit n place pieces inside (rest_from list at)
       judged_last inside h = rw (at-end inside, le-leb _ _ h)
 
-    pub judged_early_end : (inside : Bool) → next_at list at ≡ End → at + 1 ≢ length list
-        → Refused Malformed ≡ judged limit n place pieces inside (rest_from list at)
+    pub judged_early_end : (inside : Bool) → next_at list at ≡ Ok None → at + 1 ≢ length list
+        → Err Malformed ≡ judged limit n place pieces inside (rest_from list at)
     unfolding judged
     judged_early_end inside e h = rw (rest_goes_on list at e h)
 
-    pub judged_unreadable : (inside : Bool) → next_at list at ≡ Unreadable
-        → Refused Malformed ≡ judged limit n place pieces inside (rest_from list at)
+    pub judged_unreadable : (inside : Bool) (k : LoadRefusal) → next_at list at ≡ Err k
+        → Err k ≡ judged limit n place pieces inside (rest_from list at)
     unfolding judged
-    judged_unreadable inside e = rw (rest_unreadable list at e)
+    judged_unreadable inside k e = rw (rest_unreadable list at k e, unreadable_malformed list at k e)
 
     -- a command more: where it fits the place moves on, else all is outside
-    module _ (c : Command) (here : next_at list at ≡ More c) where
+    module _ (c : Command) (here : next_at list at ≡ Ok (Some c)) where
       past : (inside : Bool) (r : Reading) → judged limit n place pieces inside (before c r)
           ≡ judged limit n (place_after place c) (pieces + piece_count c)
           (inside && all_inside n (real_writes_from place (put_bytes c))) r

@@ -7,9 +7,10 @@ use mathlib.Core.List.{List, [], ◌∷◌, ◌++◌}
 use native.Mathlib.Omega.{arith}
 use native.Mathlib.Decide.{ℕ_discrete, dec_le}
 use lib.ListN.{length}
+use Rattle.std.specs.Prelude.{Some, None, Ok, Err}
 use Rattle.machine.specs.Map.{RealWrites, real_writes_from}
 use Rattle.lists.specs.declared.Command.{Command}
-use Rattle.lists.specs.declared.Next.TheVariants.{End, More, Unreadable}
+use Rattle.lists.specs.declared.LoadRefusal.{LoadRefusal}
 use Rattle.lists.specs.Lists.{width_of, next_at, Reading, malformed, commands, before, commands_in, well_formed_in}
 use Rattle.lists.specs.Lists.{reading_of, well_formed, put_bytes, place_after, puts_from, puts_of}
 use Rattle.lists.specs.Refusals.{all_inside}
@@ -54,7 +55,7 @@ module _ (list : List ℕ) where
   all_left = rw (rest_all list)
 
   -- a command, and what is left behind it
-  module _ (at : ℕ) (c : Command) (here : next_at list at ≡ More c) where
+  module _ (at : ℕ) (c : Command) (here : next_at list at ≡ Ok (Some c)) where
     pub more_inside : (n place : ℕ) → sound_from n place (rest_from list at) ≡ true → 0 < length (put_bytes c)
         → place + length (put_bytes c) ≤ n
     unfolding sound_from puts_from
@@ -88,7 +89,7 @@ module _ (list : List ℕ) where
         go malformed e = cc
         go (commands cs) e = refl
 
-  pub end-left : (at place : ℕ) → next_at list at ≡ End → left_from place at ≡ []
+  pub end-left : (at place : ℕ) → next_at list at ≡ Ok None → left_from place at ≡ []
   unfolding left_from puts_from
   end-left at place here = go (ℕ_discrete (at + 1) (length list))
     where
@@ -96,6 +97,6 @@ module _ (list : List ℕ) where
       go (yes e) = rw (rest_ends list at here e)
       go (no e) = rw (rest_goes_on list at here e)
 
-  pub unreadable_left : (at place : ℕ) → next_at list at ≡ Unreadable → left_from place at ≡ []
+  pub unreadable_left : (at place : ℕ) (k : LoadRefusal) → next_at list at ≡ Err k → left_from place at ≡ []
   unfolding left_from puts_from
-  unreadable_left at place here = rw (rest_unreadable list at here)
+  unreadable_left at place k here = rw (rest_unreadable list at k here)

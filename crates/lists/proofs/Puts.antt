@@ -4,7 +4,7 @@ use mathlib.Core.Path.{◌≡◌, refl, sym, ◌∙◌}
 use mathlib.Core.Logic.{◌≢◌}
 use mathlib.Core.Bool.{Bool, true, false, ◌&&◌}
 use mathlib.Core.List.{List, [], ◌∷◌, ◌++◌}
-use mathlib.Core.Option.{Option, none, some}
+use Rattle.std.specs.Prelude.{Option, None, Some}
 use native.Mathlib.Decide.{ℕ_discrete, dec_le}
 use native.Mathlib.Omega.{arith}
 use borrow.Author.Tests.{lt-ltb, le-ltb, ltb-true, le-leb, lt-leb, leb-true, eq-eqb, ne_eqb}
@@ -88,10 +88,10 @@ commit_append (w ∷ ws) y m = commit_append ws y (set m w.0.0 w.1)
 
 -- what a put and those after it leave at an address
 one_more : (m : Memory) (i x a : ℕ) (o : Option ℕ) → i < length m → Dec (i ≡ a)
-    → or_old o (byte_at (set m i x) a) ≡ or_old (later_or o (pick (eqb i a) (some x) none)) (byte_at m a)
-one_more m i x a (some b) h d = refl
-one_more m i x a none h (yes e) = rw (eq-eqb i a e, ← e) (get_or-set_same m i x 0 h)
-one_more m i x a none h (no e) = rw (ne_eqb i a e) (get_or-set_other m i a x 0 (λ q. e (sym q)))
+    → or_old o (byte_at (set m i x) a) ≡ or_old (later_or o (pick (eqb i a) (Some x) None)) (byte_at m a)
+one_more m i x a (Some b) h d = refl
+one_more m i x a None h (yes e) = rw (eq-eqb i a e, ← e) (get_or-set_same m i x 0 h)
+one_more m i x a None h (no e) = rw (ne_eqb i a e) (get_or-set_other m i a x 0 (λ q. e (sym q)))
 
 pub commit_last : (ws : RealWrites) (m : Memory) (a : ℕ) → all_inside (length m) ws ≡ true
     → byte_at (commit ws m) a ≡ or_old (last_put a ws) (byte_at m a)
@@ -107,22 +107,22 @@ commit_last (w ∷ ws) m a h =
 -- ---- The last put at an address
 
 later_later : (x y z : Option ℕ) → later_or (later_or x y) z ≡ later_or x (later_or y z)
-later_later (some b) y z = refl
-later_later none y z = refl
+later_later (Some b) y z = refl
+later_later None y z = refl
 
-later_none : (x : Option ℕ) → later_or x none ≡ x
-later_none (some b) = refl
-later_none none = refl
+later_none : (x : Option ℕ) → later_or x None ≡ x
+later_none (Some b) = refl
+later_none None = refl
 
 -- of some puts and others after them
 pub last_append : (a : ℕ) (x y : RealWrites) → last_put a (x ++ y) ≡ later_or (last_put a y) (last_put a x)
 unfolding last_put
 last_append a [] y = sym (later_none (last_put a y))
 last_append a (w ∷ ws) y =
-    rw (last_append a ws y) (later_later (last_put a y) (last_put a ws) (pick (eqb w.0.0 a) (some w.1) none))
+    rw (last_append a ws y) (later_later (last_put a y) (last_put a ws) (pick (eqb w.0.0 a) (Some w.1) None))
 
 -- an address outside has none
-pub none_outside : (n a : ℕ) (ws : RealWrites) → all_inside n ws ≡ true → n ≤ a → last_put a ws ≡ none
+pub none_outside : (n a : ℕ) (ws : RealWrites) → all_inside n ws ≡ true → n ≤ a → last_put a ws ≡ None
 unfolding all_inside last_put
 none_outside n a [] h l = refl
 none_outside n a (w ∷ ws) h l =

@@ -3,7 +3,7 @@ use Prim.Native.Nat.{ℕ}
 use mathlib.Core.Path.{◌≡◌, refl}
 use mathlib.Core.Bool.{Bool, true, ◌&&◌}
 use mathlib.Core.List.{List, [], ◌∷◌, ◌++◌}
-use mathlib.Core.Option.{none, some}
+use Rattle.std.specs.Prelude.{None, Some}
 use lib.Dec.{eqb}
 use Rattle.machine.specs.Words.{word_at}
 use Rattle.machine.specs.Map.{real_writes_from}
@@ -35,8 +35,8 @@ pub puts_of_patched : puts_of patched ≡ real_writes_from 0 (9 ∷ 1 ∷ 2 ∷ 
 unfolding word_at next_by next_at followed reading_from reading_of real_writes_from puts_from puts_of
 puts_of_patched = refl
 
-pub last_of_patched : (last_put 1 (puts_of patched) ≡ some 8) × (last_put 2 (puts_of patched) ≡ some 2)
-    × (last_put 7 (puts_of patched) ≡ none)
+pub last_of_patched : (last_put 1 (puts_of patched) ≡ Some 8) × (last_put 2 (puts_of patched) ≡ Some 2)
+    × (last_put 7 (puts_of patched) ≡ None)
 unfolding word_at next_by next_at followed reading_from reading_of real_writes_from puts_from puts_of last_put
 last_of_patched = (refl, refl, refl)
 

@@ -6,13 +6,13 @@
 -- 000 calls such an address one of the working store: it is a real address. The commands are the
 -- cases of `Command` in src/lib.rt.
 use Rattle.std.specs.Prelude.{ℕ, zero, suc, ◌+◌, ◌*◌, Bool, true, false, List, [], ◌∷◌, ◌++◌, leb, eqb, length, replicate}
-use Rattle.std.proofs.Math.Option.{Option, none, some}
+use Rattle.std.specs.Prelude.{Option, Some, None, Result, Ok, Err}
 use Rattle.machine.specs.Words.{pick, byte_at, bytes_of, word_at}
 use Rattle.machine.specs.Map.{RealWrites, real_writes_from}
 use Rattle.lists.specs.declared.Command.{Command}
 use Rattle.lists.specs.declared.Command.TheVariants.{Move, Byte, Four, Copies}
-use Rattle.lists.specs.declared.Next.{Next}
-use Rattle.lists.specs.declared.Next.TheVariants.{End, More, Unreadable}
+use Rattle.lists.specs.declared.LoadRefusal.{LoadRefusal}
+use Rattle.lists.specs.declared.LoadRefusal.TheVariants.{Malformed}
 
 -- ---- How a list is written
 
@@ -40,29 +40,33 @@ width_of (Byte b) = 2
 width_of (Four a b c d) = 5
 width_of (Copies n b) = 4
 
+-- what stands at an offset of a list: a command, Ok (Some c); its end, Ok None; or neither, a refusal
+abbrev pub Next : Type 0
+Next = Result (Option Command) LoadRefusal
+
 -- where nothing can be read any positive number will do
 abbrev pub width_in : Next → ℕ
-width_in End = 1
-width_in (More c) = width_of c
-width_in Unreadable = 1
+width_in (Ok None) = 1
+width_in (Ok (Some c)) = width_of c
+width_in (Err k) = 1
 
 -- by the byte at an offset of a list, with the operands behind it; "unknown command"
 unfoldable pub next_by : ℕ → List ℕ → ℕ → Next
 next_by c list at =
-    pick (eqb c 0x00) End
-    (pick (eqb c 0x01) (More (Move (record { 0 = word_at list (at + 1) })))
-    (pick (eqb c 0x02) (More (Byte (byte_at list (at + 1))))
+    pick (eqb c 0x00) (Ok None)
+    (pick (eqb c 0x01) (Ok (Some (Move (record { 0 = word_at list (at + 1) }))))
+    (pick (eqb c 0x02) (Ok (Some (Byte (byte_at list (at + 1)))))
     (pick (eqb c 0x03)
-    (More (Four (byte_at list (at + 1)) (byte_at list (at + 2)) (byte_at list (at + 3)) (byte_at list (at + 4))))
+    (Ok (Some (Four (byte_at list (at + 1)) (byte_at list (at + 2)) (byte_at list (at + 3)) (byte_at list (at + 4)))))
     (pick (eqb c 0x04)
-    (More (Copies (byte_at list (at + 1) * 0x100 + byte_at list (at + 2)) (byte_at list (at + 3))))
-    Unreadable))))
+    (Ok (Some (Copies (byte_at list (at + 1) * 0x100 + byte_at list (at + 2)) (byte_at list (at + 3)))))
+    (Err Malformed)))))
 
 -- what stands at an offset of a list, if the list has all its bytes; "a list cut short"
 unfoldable pub next_at : List ℕ → ℕ → Next
 next_at list at =
     let x = next_by (byte_at list at) list at in
-    pick (leb (at + width_in x) (length list)) x Unreadable
+    pick (leb (at + width_in x) (length list)) x (Err Malformed)
 
 -- a list's commands up to its end; or that it is malformed
 pub data Reading : Type 0 where
@@ -76,11 +80,11 @@ before c (commands cs) = commands (c ∷ cs)
 -- by what stands at an offset, whether that is the list's last byte, and what is read behind it
 unfoldable pub followed : Next → Bool → Reading → Reading
 -- "00h ends"
-followed End true rest = commands []
+followed (Ok None) true rest = commands []
 -- "bytes after its end"
-followed End false rest = malformed
-followed (More c) last rest = before c rest
-followed Unreadable last rest = malformed
+followed (Ok None) false rest = malformed
+followed (Ok (Some c)) last rest = before c rest
+followed (Err k) last rest = malformed
 
 -- from an offset of the list on, at most so many commands, the end counted
 unfoldable pub reading_from : ℕ → List ℕ → ℕ → Reading
@@ -151,15 +155,15 @@ puts_of list = puts_from 0 (commands_in (reading_of list))
 
 -- a later byte, if there is one
 abbrev pub later_or : Option ℕ → Option ℕ → Option ℕ
-later_or (some b) x = some b
-later_or none x = x
+later_or (Some b) x = Some b
+later_or None x = x
 
 -- the byte of the last put at an address, if there is one
 unfoldable pub last_put : ℕ → RealWrites → Option ℕ
-last_put a [] = none
-last_put a (w ∷ ws) = later_or (last_put a ws) (pick (eqb w.0.0 a) (some w.1) none)
+last_put a [] = None
+last_put a (w ∷ ws) = later_or (last_put a ws) (pick (eqb w.0.0 a) (Some w.1) None)
 
 -- that byte, else the old one
 abbrev pub or_old : Option ℕ → ℕ → ℕ
-or_old (some b) old = b
-or_old none old = old
+or_old (Some b) old = b
+or_old None old = old

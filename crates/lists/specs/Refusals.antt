@@ -1,15 +1,13 @@
 -- Request F-1 of document 02, what is refused of a list: "Refused: 17, unknown command, a list cut
 -- short or bytes after its end; 18, more than 4,096 pieces; 19, a put outside memory; tried in that
 -- order after 1." Each is judged over the whole list before the next.
-use Rattle.std.specs.Prelude.{ℕ, Bool, true, ◌&&◌, List, [], ◌∷◌, ltb, leb}
+use Rattle.std.specs.Prelude.{ℕ, Bool, true, ◌&&◌, List, [], ◌∷◌, ltb, leb, Result, Ok, Err}
 use Rattle.machine.specs.declared.Refusal.TheVariants as machine
 use Rattle.machine.specs.Words.{pick}
 use Rattle.machine.specs.Map.{RealWrites}
 use Rattle.machine.specs.Calls as calls
 use Rattle.lists.specs.declared.LoadRefusal.{LoadRefusal}
 use Rattle.lists.specs.declared.LoadRefusal.TheVariants.{Length, Malformed, Pieces, Outside}
-use Rattle.lists.specs.declared.LoadAnswer.{LoadAnswer}
-use Rattle.lists.specs.declared.LoadAnswer.TheVariants.{Accepted, Refused}
 use Rattle.lists.specs.Lists.{well_formed, pieces_of, puts_of}
 
 -- ---- Numbers: "In demand 1 the refusals added here and later join 1 to 7."
@@ -24,10 +22,13 @@ load_refusal_number Pieces = 18
 -- "a put outside memory"
 load_refusal_number Outside = 19
 
+-- whether a list is loaded: Ok tt, or Err with the refusal
+abbrev pub LoadAnswer : Type 0
+LoadAnswer = Result (Unit {0}) LoadRefusal
+
 -- 0 for none
 abbrev pub load_answer_number : LoadAnswer → ℕ
-load_answer_number Accepted = 0
-load_answer_number (Refused k) = load_refusal_number k
+load_answer_number = calls.number_or_0 load_refusal_number
 
 -- ---- Tests
 
@@ -42,7 +43,7 @@ all_inside n (w ∷ ws) = ltb w.0.0 n && all_inside n ws
 
 -- refused where the test does not hold; else what comes next
 abbrev pub unless : Bool → LoadRefusal → LoadAnswer → LoadAnswer
-unless test k next = pick test next (Refused k)
+unless test k next = pick test next (Err k)
 
 -- "tried in that order": a list of at most `limit` pieces, for a memory of n bytes. A malformed list
 -- has no pieces and no puts, so that 17 would come first in any order; 18 comes before 19
@@ -51,4 +52,4 @@ list_refusal limit n list =
     unless (well_formed list) Malformed
     (unless (leb (pieces_of list) limit) Pieces
     (unless (all_inside n (puts_of list)) Outside
-    Accepted))
+    (Ok tt)))

@@ -3,7 +3,7 @@
 
 ghost use Rattle.std.specs.Prelude.{◌≡◌, ◌+◌, ◌≤◌, ◌<◌, length};
 ghost use Rattle.lists.specs.Lists.{next_at, piece_count, place_after, put_bytes, width_of};
-ghost use Rattle.lists.specs.Refusals.{all_inside, list_refusal, load_answer_number, load_refusal_number};
+ghost use Rattle.lists.specs.Refusals.{all_inside, list_refusal, load_refusal_number};
 ghost use Rattle.machine.specs.Map.{real_writes_from};
 
 use machine::RealAddress;
@@ -21,54 +21,20 @@ pub enum Command {
     Copies(u32, u8),
 }
 
-// What stands at an offset of a list: 00h, its end; a command; or neither, since the byte is unknown
-// or the list is cut short.
-#[derive(Clone, Copy)]
-pub enum Next {
-    End,
-    More(Command),
-    Unreadable,
-}
-
-// Why a list is not loaded: numbers 1 and 17 to 19.
-#[derive(Clone, Copy)]
+// Why a list is not loaded: each with its number in documents 01 and 02.
+#[derive(Clone, Copy, Debug, PartialEq, Eq)]
 pub enum LoadRefusal {
-    Length,
-    Malformed,
-    Pieces,
-    Outside,
+    Length = 1,
+    Malformed = 17,
+    Pieces = 18,
+    Outside = 19,
 }
 
-// Whether a list is loaded.
-#[derive(Clone, Copy)]
-pub enum LoadAnswer {
-    Accepted,
-    Refused(LoadRefusal),
-}
+impl From<LoadRefusal> for u32 {
+    ghost from_gives = { λ k n. n ≡ load_refusal_number k };
 
-impl LoadRefusal {
-    // Its number in documents 01 and 02.
-    pub fn number(self) -> u32
-        ensures { result ≡ load_refusal_number self }
-    {
-        match self {
-            LoadRefusal::Length => 1,
-            LoadRefusal::Malformed => 17,
-            LoadRefusal::Pieces => 18,
-            LoadRefusal::Outside => 19,
-        }
-    }
-}
-
-impl LoadAnswer {
-    // The number of its refusal, or 0.
-    pub fn number(self) -> u32
-        ensures { result ≡ load_answer_number self }
-    {
-        match self {
-            LoadAnswer::Accepted => 0,
-            LoadAnswer::Refused(k) => k.number(),
-        }
+    fn from(refusal: LoadRefusal) -> u32 {
+        refusal as u32
     }
 }
 
@@ -82,8 +48,8 @@ impl Command {
         match self {
             Command::Move(_) => 5,
             Command::Byte(_) => 2,
-            Command::Four(_, _, _, _) => 5,
-            Command::Copies(_, _) => 4,
+            Command::Four(..) => 5,
+            Command::Copies(..) => 4,
         }
     }
 
@@ -93,9 +59,7 @@ impl Command {
     {
         match self {
             Command::Move(_) => 0,
-            Command::Byte(_) => 1,
-            Command::Four(_, _, _, _) => 1,
-            Command::Copies(_, _) => 1,
+            Command::Byte(_) | Command::Four(..) | Command::Copies(..) => 1,
         }
     }
 
@@ -106,7 +70,7 @@ impl Command {
         match self {
             Command::Move(_) => 0,
             Command::Byte(_) => 1,
-            Command::Four(_, _, _, _) => 4,
+            Command::Four(..) => 4,
             Command::Copies(n, _) => n,
         }
     }
@@ -117,10 +81,7 @@ impl Command {
         ensures { result ≡ all_inside n (real_writes_from place.0 (put_bytes self)) }
     {
         let count = self.count();
-        if count == 0 {
-            return true;
-        }
-        place.0 as usize + count as usize <= n
+        count == 0 || place.0 as usize + count as usize <= n
     }
 
     // The place after it.
@@ -132,40 +93,41 @@ impl Command {
         match self {
             Command::Move(a) => a,
             Command::Byte(_) => RealAddress(place.0 + 1),
-            Command::Four(_, _, _, _) => RealAddress(place.0 + 4),
+            Command::Four(..) => RealAddress(place.0 + 4),
             Command::Copies(n, _) => RealAddress(place.0 + n),
         }
     }
 }
 
-// What stands at an offset of a list. One test after another, the bytes that are left asked first: of
-// a match over the byte the compiler makes a table of jumps, which was slower.
-pub fn next_at(list: &[u8], at: usize) -> Next
+// What stands at an offset of a list: a command, or none at its end, 00h; it is malformed where the byte
+// is unknown or the list is cut short. One test after another, the bytes that are left asked first: of a
+// match over the byte, or over patterns of slices, the compiler makes a table of jumps, which is slower.
+pub fn next_at(list: &[u8], at: usize) -> Result<Option<Command>, LoadRefusal>
     requires { at ≤ length list.now }
     ensures { result ≡ next_at list.now at }
 {
     let left = list.len() - at;
     if left == 0 {
-        return Next::Unreadable;
+        return Err(LoadRefusal::Malformed);
     }
     let c = list[at];
-    if (2 <= left) & (c == 0x02) {
-        return Next::More(Command::Byte(list[at + 1]));
+    if 2 <= left && c == 0x02 {
+        return Ok(Some(Command::Byte(list[at + 1])));
     }
-    if (5 <= left) & (c == 0x03) {
-        return Next::More(Command::Four(list[at + 1], list[at + 2], list[at + 3], list[at + 4]));
+    if 5 <= left && c == 0x03 {
+        return Ok(Some(Command::Four(list[at + 1], list[at + 2], list[at + 3], list[at + 4])));
     }
-    if (4 <= left) & (c == 0x04) {
+    if 4 <= left && c == 0x04 {
         let count = words::wide(list[at + 1]) * 256 + words::wide(list[at + 2]);
-        return Next::More(Command::Copies(count, list[at + 3]));
+        return Ok(Some(Command::Copies(count, list[at + 3])));
     }
-    if (5 <= left) & (c == 0x01) {
-        return Next::More(Command::Move(RealAddress(words::word(list, at + 1))));
+    if 5 <= left && c == 0x01 {
+        return Ok(Some(Command::Move(RealAddress(words::word(list, at + 1)))));
     }
     if c == 0x00 {
-        return Next::End;
+        return Ok(None);
     }
-    Next::Unreadable
+    Err(LoadRefusal::Malformed)
 }
 
 // ---- A whole list
@@ -173,7 +135,7 @@ pub fn next_at(list: &[u8], at: usize) -> Next
 // Whether a list of at most `limit` pieces may be loaded into a memory of n bytes: 17 where it cannot
 // be read to its end, which is its last byte, then 18, then 19. Its time is the list's length. Where
 // a put is outside, the place matters no more.
-pub fn judge(list: &[u8], n: usize, limit: usize) -> LoadAnswer
+pub fn judge(list: &[u8], n: usize, limit: usize) -> Result<(), LoadRefusal>
     requires { n < 0x1_0000_0000 }
     ensures { result ≡ list_refusal limit n list.now }
 {
@@ -181,33 +143,23 @@ pub fn judge(list: &[u8], n: usize, limit: usize) -> LoadAnswer
     let mut pieces: usize = 0;
     let mut place = RealAddress(0);
     let mut inside = true;
-    loop {
-        let x = next_at(list, at);
-        match x {
-            Next::More(c) => {
-                at += c.width();
-                pieces += c.pieces();
-                if c.fits(place, n) {
-                    place = c.place_after(place);
-                } else {
-                    inside = false;
-                }
-            }
-            Next::End => {
-                if list.len() - at != 1 {
-                    return LoadAnswer::Refused(LoadRefusal::Malformed);
-                }
-                if limit < pieces {
-                    return LoadAnswer::Refused(LoadRefusal::Pieces);
-                }
-                if inside {
-                    return LoadAnswer::Accepted;
-                }
-                return LoadAnswer::Refused(LoadRefusal::Outside);
-            }
-            Next::Unreadable => {
-                return LoadAnswer::Refused(LoadRefusal::Malformed);
-            }
+    while let Some(c) = next_at(list, at)? {
+        at += c.width();
+        pieces += c.pieces();
+        if c.fits(place, n) {
+            place = c.place_after(place);
+        } else {
+            inside = false;
         }
     }
+    if list.len() - at != 1 {
+        return Err(LoadRefusal::Malformed);
+    }
+    if limit < pieces {
+        return Err(LoadRefusal::Pieces);
+    }
+    if !inside {
+        return Err(LoadRefusal::Outside);
+    }
+    Ok(())
 }

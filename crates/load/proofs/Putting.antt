@@ -1,19 +1,20 @@
 -- A command put into a memory: that it has room; and what is left of the list, put behind it, gives what
 -- the whole list gives.
-use Prim.Native.Nat.{ℕ, suc, ◌+◌, ◌≤◌, ◌<◌}
-use mathlib.Core.Path.{◌≡◌}
+use Prim.Native.Nat.{ℕ, ◌+◌, ◌≤◌, ◌<◌}
+use mathlib.Core.Path.{◌≡◌, sym}
 use mathlib.Core.Bool.{true}
-use mathlib.Core.List.{List, [], ◌∷◌}
+use mathlib.Core.List.{List, []}
 use native.Mathlib.Omega.{arith}
 use native.Mathlib.Decide.{dec_lt}
-use lib.ListN.{length, length-replicate, set}
-use lib.Seq.{sets}
+use lib.ListN.{length}
+use lib.Seq.{sets, sets-eq, drop-drop}
+use borrow.Rule.Slice.PartMut.{put_mid}
+use Rattle.std.proofs.Common.{append_assoc}
+use Rattle.std.specs.Prelude.{Some, Ok}
 use Rattle.machine.specs.Words.{Memory}
 use Rattle.machine.specs.Map.{RealWrites, commit}
 use Rattle.machine.proofs.Writes.{commit_from}
 use Rattle.lists.specs.declared.Command.{Command}
-use Rattle.lists.specs.declared.Command.TheVariants.{Copies}
-use Rattle.lists.specs.declared.Next.TheVariants.{More}
 use Rattle.lists.specs.Lists.{width_of, next_at, put_bytes, place_after}
 use Rattle.load.specs.Judged.{Puttable}
 use Rattle.lists.proofs.Reading.{rest_from}
@@ -25,10 +26,6 @@ pub room : {m : Memory} {place : ℕ} {c d : Command} → Puttable m place c →
     → place + length (put_bytes d) ≤ length m
 room p e = rw e at p.inside
 
-pub copies_room : {m : Memory} {place n b : ℕ} {c : Command} → Puttable m place c → c ≡ Copies n b → 0 < n
-    → place + n ≤ length m
-copies_room p e = rw length-replicate at (room p e)
-
 -- and the place after it in an address
 pub end_small : {m : Memory} {place : ℕ} (c : Command) → Puttable m place c → length m < 0x1_0000_0000
     → place < 0x1_0000_0000 → place + length (put_bytes c) < 0x1_0000_0000
@@ -38,16 +35,14 @@ end_small {place = place} c p l h = go (dec_lt 0 (length (put_bytes c)))
     go (yes z) = omega (arith, p.inside z)
     go (no z) = omega arith
 
-pub four_laid : (m : Memory) (place a b c d : ℕ)
-    → set (set (set (set m place a) (place + 1) b) (place + 2) c) (place + 3) d ≡ sets m place (a ∷ b ∷ c ∷ d ∷ [])
-four_laid m place a b c d =
-    let e : place + 1 ≡ suc place = omega arith in
-    let f : place + 2 ≡ suc (suc place) = omega arith in
-    let g : place + 3 ≡ suc (suc (suc place)) = omega arith in
-    rw (e, f, g)
+-- a part of the memory, replaced by as many bytes, is as these bytes leave it one after another
+pub part_laid : (m : Memory) (a k : ℕ) (xs bs : List ℕ) → xs ≡ bs → length bs ≡ k → a + k ≤ length m
+    → put_mid a k m xs ≡ sets m a bs
+part_laid m a k xs bs e l h =
+    rw (e, ← l) (simp drop-drop (sym (simp append_assoc at (sets-eq bs m a (omega arith)))))
 
 -- a command of a list, and what is left behind it
-module _ (list : List ℕ) (at : ℕ) (c : Command) (here : next_at list at ≡ More c) where
+module _ (list : List ℕ) (at : ℕ) (c : Command) (here : next_at list at ≡ Ok (Some c)) where
   pub more_puttable : (n place : ℕ) (m : Memory) → length m ≡ n → sound_from n place (rest_from list at) ≡ true
       → Puttable m place c
   more_puttable n place m l h = record { inside = rw l (more_inside list at c here n place h) }

@@ -4,11 +4,11 @@ use mathlib.Core.Path.{◌≡◌, refl}
 use mathlib.Core.List.{List, [], ◌∷◌}
 use lib.ListN.{replicate}
 use lib.Seq.{sets}
+use Rattle.std.specs.Prelude.{Ok, Err}
 use Rattle.machine.specs.Words.{Memory, word_at}
 use Rattle.machine.specs.State.{allowed_length}
 use Rattle.machine.specs.Map.{real_writes_from, commit}
 use Rattle.lists.specs.declared.LoadRefusal.TheVariants.{Length, Outside}
-use Rattle.lists.specs.declared.LoadAnswer.TheVariants.{Accepted, Refused}
 use Rattle.lists.specs.Lists.{next_by, next_at, followed, reading_from, reading_of, puts_from, puts_of, pieces_in, pieces_of}
 use Rattle.lists.specs.Lists.{well_formed}
 use Rattle.lists.specs.Refusals.{all_inside, desk_pieces, list_refusal}
@@ -27,18 +27,18 @@ patched =
 
 -- a memory of 512 bytes of 5: the rest of it stays
 pub loads_patched : whole_load (replicate 512 5) patched
-    ≡ loaded Accepted (sets (replicate 512 5) 0 (9 ∷ 8 ∷ 2 ∷ 3 ∷ 4 ∷ 7 ∷ 7 ∷ []))
+    ≡ loaded (Ok tt) (sets (replicate 512 5) 0 (9 ∷ 8 ∷ 2 ∷ 3 ∷ 4 ∷ 7 ∷ 7 ∷ []))
 unfolding whole_load
 loads_patched = refl
 
 -- the first piece is inside, the second is not: nothing changes
 pub refuses_outside : whole_load (replicate 512 5) (0x02 ∷ 9 ∷ 0x01 ∷ 0 ∷ 0 ∷ 2 ∷ 0 ∷ 0x02 ∷ 9 ∷ 0x00 ∷ [])
-    ≡ loaded (Refused Outside) (replicate 512 5)
+    ≡ loaded (Err Outside) (replicate 512 5)
 unfolding whole_load
 refuses_outside = refl
 
 -- 513 bytes are no memory, neither for a list that is 17 nor for one that would be loaded
-pub length_first : (whole_load (replicate 513 5) [] ≡ loaded (Refused Length) (replicate 513 5))
-    × (whole_load (replicate 513 5) patched ≡ loaded (Refused Length) (replicate 513 5))
+pub length_first : (whole_load (replicate 513 5) [] ≡ loaded (Err Length) (replicate 513 5))
+    × (whole_load (replicate 513 5) patched ≡ loaded (Err Length) (replicate 513 5))
 unfolding whole_load
 length_first = (refl, refl)

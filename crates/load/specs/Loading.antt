@@ -1,15 +1,13 @@
 -- Request F-1 of document 02: the call `load`, for every memory and every list. "Loading leaves
 -- unmentioned memory untouched, and a refused list changes nothing. Refused: .. tried in that order
 -- after 1."
-use Rattle.std.specs.Prelude.{ℕ, List, length}
+use Rattle.std.specs.Prelude.{ℕ, List, length, Ok, Err}
 use Rattle.machine.specs.Words.{Memory}
 use Rattle.machine.specs.Map.{RealWrites, commit}
 use Rattle.machine.specs.Calls.{passes1}
 use Rattle.lists.specs.declared.LoadRefusal.TheVariants.{Length}
-use Rattle.lists.specs.declared.LoadAnswer.{LoadAnswer}
-use Rattle.lists.specs.declared.LoadAnswer.TheVariants.{Accepted, Refused}
 use Rattle.lists.specs.Lists.{puts_of}
-use Rattle.lists.specs.Refusals.{unless, list_refusal}
+use Rattle.lists.specs.Refusals.{LoadAnswer, unless, list_refusal}
 
 -- an answer with the memory that it leaves
 pub record Loaded : Type 0 where
@@ -25,8 +23,8 @@ load_refusal limit n list = unless (passes1 n) Length (list_refusal limit n list
 
 -- "a refused list changes nothing"
 unfoldable pub loaded_by : LoadAnswer → RealWrites → Memory → Loaded
-loaded_by Accepted puts m = loaded Accepted (commit puts m)
-loaded_by (Refused k) puts m = loaded (Refused k) m
+loaded_by (Ok u) puts m = loaded (Ok tt) (commit puts m)
+loaded_by (Err k) puts m = loaded (Err k) m
 
 -- a list of at most `limit` pieces
 unfoldable pub load_of : ℕ → Memory → List ℕ → Loaded

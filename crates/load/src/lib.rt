@@ -9,7 +9,7 @@ ghost use Rattle.load.specs.Judged.{Puttable, Sound};
 ghost use Rattle.load.specs.Loading.{load_of, loaded};
 ghost use Rattle.machine.specs.Map.{commit};
 
-use lists::{Command, DESK_PIECES, LoadAnswer, LoadRefusal, Next};
+use lists::{Command, DESK_PIECES, LoadRefusal};
 use machine::RealAddress;
 
 // So many copies of a byte from an index on; of none the index does not matter.
@@ -17,10 +17,8 @@ pub fn fill(mem: &mut [u8], at: usize, count: usize, byte: u8)
     requires { 0 < count → at + count ≤ length mem.old }
     ensures { mem.new ≡ sets mem.old at (replicate count byte) }
 {
-    let mut i: usize = 0;
-    while i < count {
-        mem[at + i] = byte;
-        i += 1;
+    if 0 < count {
+        mem[at..at + count].fill(byte);
     }
 }
 
@@ -36,10 +34,7 @@ fn put(mem: &mut [u8], place: RealAddress, c: Command)
             mem[at] = b;
         }
         Command::Four(a, b, c, d) => {
-            mem[at] = a;
-            mem[at + 1] = b;
-            mem[at + 2] = c;
-            mem[at + 3] = d;
+            mem[at..at + 4].copy_from_slice(&[a, b, c, d]);
         }
         Command::Copies(count, b) => {
             fill(mem, at, count as usize, b);
@@ -54,38 +49,22 @@ pub fn put_all(mem: &mut [u8], list: &[u8])
 {
     let mut at: usize = 0;
     let mut place = RealAddress(0);
-    loop {
-        let x = lists::next_at(list, at);
-        match x {
-            Next::More(c) => {
-                put(mem, place, c);
-                place = c.place_after(place);
-                at += c.width();
-            }
-            Next::End => {
-                return;
-            }
-            Next::Unreadable => {
-                return;
-            }
-        }
+    while let Ok(Some(c)) = lists::next_at(list, at) {
+        put(mem, place, c);
+        place = c.place_after(place);
+        at += c.width();
     }
 }
 
 // Loads a list into a memory, or refuses it and changes nothing.
-pub fn load(mem: &mut [u8], list: &[u8]) -> LoadAnswer
+pub fn load(mem: &mut [u8], list: &[u8]) -> Result<(), LoadRefusal>
     ensures { loaded result mem.new ≡ load_of desk_pieces mem.old list.now }
 {
     let n = mem.len();
     if !checks::length_allowed(n) {
-        return LoadAnswer::Refused(LoadRefusal::Length);
+        return Err(LoadRefusal::Length);
     }
-    let answer = lists::judge(list, n, DESK_PIECES);
-    match answer {
-        LoadAnswer::Accepted => {
-            put_all(mem, list);
-            LoadAnswer::Accepted
-        }
-        LoadAnswer::Refused(k) => LoadAnswer::Refused(k),
-    }
+    lists::judge(list, n, DESK_PIECES)?;
+    put_all(mem, list);
+    Ok(())
 }

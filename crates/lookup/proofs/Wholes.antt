@@ -4,9 +4,10 @@ use Prim.Native.Nat.{ℕ, ◌+◌, ◌<◌, ◌≤◌}
 use mathlib.Core.Path.{◌≡◌, ap, ◌∙◌}
 use mathlib.Core.List.{List}
 use lib.ListN.{length}
+use Rattle.std.specs.Prelude.{Option, Some, Result, Ok, Err}
+use Rattle.machine.specs.declared.Fault.{Fault}
 use Rattle.machine.specs.declared.Access.{Access}
 use Rattle.machine.specs.declared.Access.TheVariants.{Write}
-use Rattle.machine.specs.declared.Alarm.{Alarm}
 use Rattle.machine.specs.declared.Map.{Map}
 use Rattle.machine.specs.declared.RealAddress.{RealAddress}
 use Rattle.machine.specs.declared.VirtualAddress.{VirtualAddress}
@@ -15,9 +16,7 @@ use Rattle.machine.specs.Alarms.{got, alarm}
 use Rattle.machine.specs.Map.{found_at, view_by, read_bytes, writes_from, real_writes_from, located}
 use Rattle.machine.specs.OnePage.{InOnePage, whole_value, whole_writes, Together}
 use Rattle.machine.proofs.OnePage.{one_page}
-use Rattle.machine.proofs.Pages.{Alarms, Finds}
-use Rattle.lookup.specs.declared.Whole.{Whole}
-use Rattle.lookup.specs.declared.Whole.TheVariants as whole
+use Rattle.machine.proofs.Pages.{Finds}
 use Rattle.lookup.specs.Answers.{Fits, WholeOf}
 
 -- the n bytes from x on lie in one page, and the first is found at place a
@@ -25,13 +24,13 @@ pub record Adjoin (s : ℕ) (map : Map) (m : Memory) (x : VirtualAddress) (w : A
   pub bytes : Together m x n
   pub hit : view_by s map m x w ≡ got (found_at m a)
 
--- and the first has alarm k
-pub record Stops (s : ℕ) (map : Map) (m : Memory) (x : VirtualAddress) (w : Access) (n : ℕ) (k : Alarm) : Type 0 where
+-- and the first has the alarm of fault f
+pub record Stops (s : ℕ) (map : Map) (m : Memory) (x : VirtualAddress) (w : Access) (n : ℕ) (f : Fault) : Type 0 where
   pub bytes : Together m x n
-  pub miss : view_by s map m x w ≡ alarm k x.0
+  pub miss : view_by s map m x w ≡ alarm f.alarm f.argument
 
-module _ {s : ℕ} {map : Map} {m : Memory} {x : VirtualAddress} {w : Access} {n : ℕ} {q : Whole} where
-  pub whole-at : {a : RealAddress} → q ≡ whole.At a → WholeOf (view_by s map m) m x n w q → Fits map m
+module _ {s : ℕ} {map : Map} {m : Memory} {x : VirtualAddress} {w : Access} {n : ℕ} {q : Result (Option RealAddress) Fault} where
+  pub whole-at : {a : RealAddress} → q ≡ Ok (Some a) → WholeOf (view_by s map m) m x n w q → Fits map m
       → x.0 < 0x1_0000_0000 → 0 < n → Adjoin s map m x w n a
   whole-at {a} e h fits small some =
       let told : InOnePage x n × (view_by s map m x w ≡ got (found_at m a)) = rw e at h in
@@ -40,13 +39,13 @@ module _ {s : ℕ} {map : Map} {m : Memory} {x : VirtualAddress} {w : Access} {n
         hit = told.1;
       }
 
-  pub whole_alarm : {y : VirtualAddress} {k : Alarm} → q ≡ whole.Alarm y k → WholeOf (view_by s map m) m x n w q
-      → Fits map m → x.0 < 0x1_0000_0000 → 0 < n → Stops s map m x w n k
-  whole_alarm {y} {k} e h fits small some =
-      let told : InOnePage x n × (view_by s map m x w ≡ alarm k y.0) = rw e at h in
+  pub whole_alarm : {f : Fault} → q ≡ Err f → WholeOf (view_by s map m) m x n w q
+      → Fits map m → x.0 < 0x1_0000_0000 → 0 < n → Stops s map m x w n f
+  whole_alarm {f} e h fits small some =
+      let told : InOnePage x n × (view_by s map m x w ≡ alarm f.alarm f.argument) = rw e at h in
       record {
         bytes = record { frames = fits.whole; address = small; some = some; page = told.0 };
-        miss = told.1 ∙ ap (alarm k) (one_page.own_address s map m x w k y.0 told.1);
+        miss = told.1;
       }
 
 -- ---- They are read
@@ -62,11 +61,8 @@ module _ {s : ℕ} {map : Map} {m : Memory} {x : VirtualAddress} {w : Access} {n
     pub adjoin_read : read_bytes (view_by s map m) w n x ≡ got (value_at m n a.0 0)
     adjoin_read = one_page.value s map m x w n f.bytes ∙ ap (whole_value m n) f.hit
 
-  module _ {k : Alarm} (f : Stops s map m x w n k) where
-    pub stops_alarms : Alarms s map m x w k
-    stops_alarms = record { small = f.bytes.address; miss = f.miss }
-
-    pub stops_read : read_bytes (view_by s map m) w n x ≡ alarm k x.0
+  module _ {e : Fault} (f : Stops s map m x w n e) where
+    pub stops_read : read_bytes (view_by s map m) w n x ≡ alarm e.alarm e.argument
     stops_read = one_page.value s map m x w n f.bytes ∙ ap (whole_value m n) f.miss
 
 -- ---- They are written
@@ -76,6 +72,6 @@ module _ {s : ℕ} {map : Map} {m : Memory} {x : VirtualAddress} {n : ℕ} (bs :
       → located (view_by s map m) (writes_from x.0 bs) ≡ got (real_writes_from a.0 bs)
   adjoin_located f = one_page.writes s map m x bs (rw long f.bytes) ∙ ap (whole_writes bs) f.hit
 
-  pub stops_located : {k : Alarm} → Stops s map m x Write n k
-      → located (view_by s map m) (writes_from x.0 bs) ≡ alarm k x.0
+  pub stops_located : {e : Fault} → Stops s map m x Write n e
+      → located (view_by s map m) (writes_from x.0 bs) ≡ alarm e.alarm e.argument
   stops_located f = one_page.writes s map m x bs (rw long f.bytes) ∙ ap (whole_writes bs) f.miss

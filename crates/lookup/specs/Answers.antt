@@ -1,22 +1,17 @@
 -- What a lookup says, and what it asks of an entry, in the terms of `machine`.
-use Rattle.std.specs.Prelude.{ℕ, ◌+◌, ◌*◌, ◌/◌, ◌%◌, ◌<◌, ◌≤◌, ◌≡◌, not, ◌||◌, ltb, leb, eqb, length}
+use Rattle.std.specs.Prelude.{ℕ, ◌+◌, ◌*◌, ◌/◌, ◌%◌, ◌<◌, ◌≤◌, ◌≡◌, not, ◌||◌, ltb, leb, eqb, length, Option, Some, None, Result, Ok, Err}
 use Rattle.machine.specs.declared.RealAddress.{RealAddress}
 use Rattle.machine.specs.declared.VirtualAddress.{VirtualAddress}
 use Rattle.machine.specs.declared.Access.{Access}
 use Rattle.machine.specs.declared.Access.TheVariants.{Fetch, Read, Write}
 use Rattle.machine.specs.declared.Alarm.{Alarm}
 use Rattle.machine.specs.declared.Alarm.TheVariants as alarms
+use Rattle.machine.specs.declared.Fault.{Fault}
 use Rattle.machine.specs.declared.Map.{Map}
 use Rattle.machine.specs.Words.{pick, Memory, lowered}
-use Rattle.machine.specs.Alarms.{OrAlarm, got, alarm}
+use Rattle.machine.specs.Alarms.{OrAlarm, got, alarm, answered}
 use Rattle.machine.specs.Map.{forbidden_bits, Found, found_at, View, view_by}
 use Rattle.machine.specs.OnePage.{InOnePage}
-use Rattle.lookup.specs.declared.Lookup.{Lookup}
-use Rattle.lookup.specs.declared.Lookup.TheVariants as lookup
-use Rattle.lookup.specs.declared.Whole.{Whole}
-use Rattle.lookup.specs.declared.Whole.TheVariants as whole
-use Rattle.lookup.specs.declared.Neighbour.{Neighbour}
-use Rattle.lookup.specs.declared.Neighbour.TheVariants as neighbour
 
 -- what a lookup relies on, part of what numbers 1 and 4 make sure of
 pub record Fits (map : Map) (m : Memory) : Type 0 where
@@ -47,16 +42,15 @@ refused_for w e frames =
     (pick (not (eqb (forbidden_bits e) 0) || leb frames (e % 0x100_0000)) alarms.MapEntry (closed_to w))
 
 -- a lookup in memory m
-abbrev pub lookup_as : Memory → Lookup → OrAlarm Found
-lookup_as m (lookup.At a) = got (found_at m a)
-lookup_as m (lookup.Alarm x k) = alarm k x.0
+abbrev pub lookup_as : Memory → Result RealAddress Fault → OrAlarm Found
+lookup_as m r = answered (found_at m) r
 
 -- n bytes from x on, through view v of memory m: where they lie in one page, what the lookup of the
 -- first says, which answers for all of them (`OnePage` of `machine`); apart: they do not
-abbrev pub WholeOf : View → Memory → VirtualAddress → ℕ → Access → Whole → Type 0
-WholeOf v m x n w (whole.At a) = InOnePage x n × (v x w ≡ got (found_at m a))
-WholeOf v m x n w (whole.Alarm y k) = InOnePage x n × (v x w ≡ alarm k y.0)
-WholeOf v m x n w whole.Apart = 512 < x.0 % 512 + n
+abbrev pub WholeOf : View → Memory → VirtualAddress → ℕ → Access → Result (Option RealAddress) Fault → Type 0
+WholeOf v m x n w (Ok (Some a)) = InOnePage x n × (v x w ≡ got (found_at m a))
+WholeOf v m x n w (Err e) = InOnePage x n × (v x w ≡ alarm e.alarm e.argument)
+WholeOf v m x n w (Ok None) = 512 < x.0 % 512 + n
 
 -- in every memory of whole frames, in either mode and for every reason: where the byte at start is
 -- found at that place, the byte at x is found at a
@@ -66,6 +60,6 @@ pub record FoundFrom (start : VirtualAddress) (found : RealAddress) (x : Virtual
       → view_by s map m start w ≡ got (found_at m found) → view_by s map m x w ≡ got (found_at m a)
 
 -- n bytes from x on lie in the page, and the first is found so
-abbrev pub FoundBeside : VirtualAddress → RealAddress → VirtualAddress → ℕ → Neighbour → Type 0
-FoundBeside start found x n (neighbour.At a) = InOnePage x n × FoundFrom start found x a
-FoundBeside start found x n neighbour.Elsewhere = Unit {0}
+abbrev pub FoundBeside : VirtualAddress → RealAddress → VirtualAddress → ℕ → Option RealAddress → Type 0
+FoundBeside start found x n (Some a) = InOnePage x n × FoundFrom start found x a
+FoundBeside start found x n None = Unit {0}

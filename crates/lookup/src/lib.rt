@@ -9,30 +9,7 @@ ghost use Rattle.machine.specs.Map.{in_frame, mapped, real_of, view_by};
 ghost use Rattle.machine.specs.State.{user_mode};
 ghost use Rattle.machine.specs.Words.{pick};
 
-use machine::{Access, Alarm, FrameNumber, Map, RealAddress, VirtualAddress};
-
-// Where a byte lies, or the byte's address and an alarm.
-#[derive(Clone, Copy)]
-pub enum Lookup {
-    At(RealAddress),
-    Alarm(VirtualAddress, Alarm),
-}
-
-// Where the first of some bytes lies, the others adjoining it, or its address and an alarm; or the
-// bytes do not lie in one page.
-#[derive(Clone, Copy)]
-pub enum Whole {
-    At(RealAddress),
-    Alarm(VirtualAddress, Alarm),
-    Apart,
-}
-
-// The place of a byte in the page of one already looked up, or not there.
-#[derive(Clone, Copy)]
-pub enum Neighbour {
-    At(RealAddress),
-    Elsewhere,
-}
+use machine::{Access, Alarm, Fault, FrameNumber, Map, RealAddress, VirtualAddress};
 
 fn in_frame(f: FrameNumber, x: VirtualAddress) -> RealAddress
     requires { f.0 < 32768 }
@@ -82,23 +59,33 @@ fn refused(why: Access, e: u32, frames: usize) -> Alarm
     }
 }
 
+// An alarm whose argument is the byte's address.
+fn at_byte(x: VirtualAddress, alarm: Alarm) -> Fault
+    ensures { result ≡ record { alarm = alarm; argument = x.0 } }
+{
+    Fault {
+        alarm,
+        argument: x.0,
+    }
+}
+
 // In user mode.
-fn look_mapped(mem: &[u8], map: Map, x: VirtualAddress, why: Access) -> Lookup
+fn look_mapped(mem: &[u8], map: Map, x: VirtualAddress, why: Access) -> Result<RealAddress, Fault>
     requires { Fits map mem.now }
     ensures { lookup_as mem.now result ≡ mapped map mem.now x why }
 {
     let p = x.0 / 512;
     if map.length <= p {
-        return Lookup::Alarm(x, Alarm::Address);
+        return Err(at_byte(x, Alarm::Address));
     }
     let base = map.base;
     let e = words::word(mem, (base.0 + 4 * p) as usize);
     let f = frame_for(why, e);
     let frames = mem.len() / 512;
     if frames <= f as usize {
-        return Lookup::Alarm(x, refused(why, e, frames));
+        return Err(at_byte(x, refused(why, e, frames)));
     }
-    Lookup::At(in_frame(FrameNumber(f), x))
+    Ok(in_frame(FrameNumber(f), x))
 }
 
 // In kernel mode alone.
@@ -109,8 +96,14 @@ pub fn real(status: u32, x: VirtualAddress) -> RealAddress
     RealAddress(x.0)
 }
 
-// In the mode that the status tells.
-pub fn look(mem: &[u8], status: u32, map: Map, x: VirtualAddress, why: Access) -> Lookup
+// Where a byte lies, in the mode that the status tells.
+pub fn look(
+    mem: &[u8],
+    status: u32,
+    map: Map,
+    x: VirtualAddress,
+    why: Access,
+) -> Result<RealAddress, Fault>
     requires { Fits map mem.now }
     ensures { lookup_as mem.now result ≡ view_by status map mem.now x why }
 {
@@ -118,13 +111,13 @@ pub fn look(mem: &[u8], status: u32, map: Map, x: VirtualAddress, why: Access) -
         return look_mapped(mem, map, x, why);
     }
     if (x.0 as usize) < mem.len() {
-        return Lookup::At(real(status, x));
+        return Ok(real(status, x));
     }
-    Lookup::Alarm(x, Alarm::Address)
+    Err(at_byte(x, Alarm::Address))
 }
 
-// The n bytes from x on. Where they lie in one page, it is looked up once, and the first byte's
-// answer is that of all (`OnePage`).
+// Where the n bytes from x on lie, if they lie in one page: it is looked up once, and the first
+// byte's answer is that of all (`OnePage`). None where they do not.
 pub fn look_whole(
     mem: &[u8],
     status: u32,
@@ -132,31 +125,33 @@ pub fn look_whole(
     x: VirtualAddress,
     n: u32,
     why: Access,
-) -> Whole
+) -> Result<Option<RealAddress>, Fault>
     requires { Fits map mem.now × (1 ≤ n) × (n ≤ 512) }
     ensures { WholeOf (view_by status map mem.now) mem.now x n why result }
 {
     if 512 < x.0 % 512 + n {
-        return Whole::Apart;
+        return Ok(None);
     }
-    let s = look(mem, status, map, x, why);
-    match s {
-        Lookup::At(r) => Whole::At(r),
-        Lookup::Alarm(a, k) => Whole::Alarm(a, k),
-    }
+    let r = look(mem, status, map, x, why)?;
+    Ok(Some(r))
 }
 
 // Where the byte at x lies, if x is not before start and the n bytes from x on lie in the page of
-// start, whose byte lies at found. Elsewhere promises nothing: the caller looks the byte up.
-pub fn beside(start: VirtualAddress, found: RealAddress, x: VirtualAddress, n: u32) -> Neighbour
+// start, whose byte lies at found. None promises nothing: the caller looks the byte up.
+pub fn beside(
+    start: VirtualAddress,
+    found: RealAddress,
+    x: VirtualAddress,
+    n: u32,
+) -> Option<RealAddress>
     requires { (found.0 ≤ 16777216) × (1 ≤ n) × (n ≤ 512) }
     ensures { FoundBeside start found x n result }
 {
     if start.0 <= x.0 {
         let k = x.0 - start.0;
         if start.0 % 512 + k <= 512 - n {
-            return Neighbour::At(RealAddress(found.0 + k));
+            return Some(RealAddress(found.0 + k));
         }
     }
-    Neighbour::Elsewhere
+    None
 }

@@ -1,5 +1,6 @@
 -- A step or run that is not refused: what that tells of the desk, and that the desk which an
 -- accepted step leaves is accepted or stopped.
+use Rattle.std.specs.Prelude.{Ok}
 use Prim.Native.Nat.{ℕ, zero, suc, ◌+◌, ◌-◌, ◌*◌, ◌/◌, ◌%◌, ◌^◌, ◌≤◌}
 use mathlib.Core.Path.{◌≡◌, refl}
 use mathlib.Core.Bool.{Bool, true, false, not, ◌&&◌}
@@ -14,7 +15,6 @@ use Rattle.machine.specs.declared.Mark.{Mark}
 use Rattle.machine.specs.declared.Mark.TheVariants.{Running, Stopped}
 use Rattle.machine.specs.declared.Desk.{Desk}
 use Rattle.machine.specs.declared.Refusal.{Refusal}
-use Rattle.machine.specs.declared.Answer.TheVariants.{Accepted}
 use Rattle.machine.specs.Words.{pick, Memory, word_at}
 use Rattle.machine.specs.State.{Registers, allowed_length, user_mode, level_of, flags_of, with_flags, valid_status}
 use Rattle.machine.specs.State.{valid_user_status, valid_kernel_status, is_pending, without_level, system_block_of}
@@ -40,13 +40,13 @@ pub record Passes (d : Desk) (n : ℕ) : Type 0 where
   pub state : passes5 d ≡ true
   pub mark : is_running d.mark ≡ true
 
-first_passed : (b : Bool) (k : Refusal) (ts : List (Bool × Refusal)) → first_refused ((b, k) ∷ ts) ≡ Accepted
-    → (b ≡ true) × (first_refused ts ≡ Accepted)
+first_passed : (b : Bool) (k : Refusal) (ts : List (Bool × Refusal)) → first_refused ((b, k) ∷ ts) ≡ Ok tt
+    → (b ≡ true) × (first_refused ts ≡ Ok tt)
 unfolding first_refused
 first_passed true k ts e = (refl, e)
 first_passed false k ts e = absurd (let z : ◌≡◌ {A = ℕ} 0 1 = cc in omega arith)
 
-pub passes : (d : Desk) (n : ℕ) → step_refusal d n ≡ Accepted → Passes d n
+pub passes : (d : Desk) (n : ℕ) → step_refusal d n ≡ Ok tt → Passes d n
 unfolding step_refusal
 passes d n e =
     let first = first_passed _ _ _ e in
@@ -64,7 +64,7 @@ passes d n e =
       mark = last.0;
     }
 
-pub accepted : (d : Desk) (n : ℕ) → Passes d n → step_refusal d n ≡ Accepted
+pub accepted : (d : Desk) (n : ℕ) → Passes d n → step_refusal d n ≡ Ok tt
 unfolding step_refusal first_refused
 accepted d n p = simp (p.length, p.system, p.control, p.map, p.state, p.mark)
 
@@ -246,11 +246,11 @@ module _ (d : Desk) (m : Memory) (p : Passes d (length m)) where
   steps_more i k = rw (p.mark, passed_step)
 
 pub steps_stopped : (i k : ℕ) (d : Desk) (m : Memory) → is_running d.mark ≡ false
-    → steps_of i k d m ≡ ran Accepted k d m
+    → steps_of i k d m ≡ ran (Ok tt) k d m
 unfolding steps_of
 steps_stopped zero k d m e = refl
 steps_stopped (suc i) k d m e = rw e
 
-pub steps_done : (i k : ℕ) (d : Desk) (m : Memory) → i ≡ 0 → steps_of i k d m ≡ ran Accepted k d m
+pub steps_done : (i k : ℕ) (d : Desk) (m : Memory) → i ≡ 0 → steps_of i k d m ≡ ran (Ok tt) k d m
 unfolding steps_of
 steps_done i k d m e = rw e

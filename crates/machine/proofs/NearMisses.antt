@@ -1,5 +1,6 @@
 -- Document 01, "Near misses", and other errors that would be silent: whole steps in which each of
 -- them would show, by computation.
+use Rattle.std.specs.Prelude.{Ok}
 use Prim.Native.Nat.{ℕ, ◌+◌, ◌*◌}
 use mathlib.Core.Path.{◌≡◌, refl}
 use mathlib.Core.List.{List, [], ◌∷◌, ◌++◌}
@@ -7,12 +8,10 @@ use lib.ListN.{replicate, set, take}
 use lib.Seq.{sets}
 use Rattle.machine.specs.declared.Mark.TheVariants.{Running, Stopped}
 use Rattle.machine.specs.declared.Desk.{Desk}
-use Rattle.machine.specs.declared.Answer.TheVariants.{Accepted}
-use Rattle.machine.specs.declared.StepAnswer.{StepAnswer}
-use Rattle.machine.specs.declared.StepAnswer.TheVariants as step_answer
+use Rattle.machine.specs.declared.StepEvent.TheVariants as step_event
 use Rattle.machine.specs.Words.{Memory, bytes_of, bytes_of_words, word_at}
 use Rattle.machine.specs.State.{Registers, reg, saved_bytes, desk_with}
-use Rattle.machine.specs.Calls.{Stepped, step_of, fresh_desk, run_of, run_unless, steps_of}
+use Rattle.machine.specs.Calls.{StepAnswer, Stepped, step_of, fresh_desk, run_of, run_unless, steps_of}
 use Rattle.machine.specs.TriedValues.{I, A, R, memory_with, kernel_desk, ran_on, register_after, flags_after}
 use Rattle.machine.proofs.WholeStep.{whole_step}
 
@@ -37,7 +36,7 @@ ran_on_flags x code =
 unfoldable pub stops_with : ℕ → ℕ → List ℕ → Stepped
 stops_with n x code = record {
   reply = record {
-    answer = step_answer.Stopped n;
+    answer = Ok (step_event.Stopped n);
     desk = desk_with (kernel_desk 0 x) (kernel_desk 0 x).registers 0x8000_0000 0 (Stopped n);
   };
   memory = memory_with 512 code;
@@ -79,7 +78,7 @@ user_ran i entries sp code = step_of (user_desk entries sp) (user_memory i code)
 -- set p is left, and nothing else is written
 unfoldable pub enters : ℕ → Desk → List ℕ → Registers → ℕ → ℕ → Stepped
 enters i d code r x p = record {
-  reply = record { answer = step_answer.Entered i; desk = desk_with d (set r 15 0x100) 0x8000_0000 p Running };
+  reply = record { answer = Ok (step_event.Entered i); desk = desk_with d (set r 15 0x100) 0x8000_0000 p Running };
   memory = sets (user_memory i code) 256 (saved_bytes r d.status x);
 }
 
@@ -167,25 +166,25 @@ pub record NearMisses : Type 0 where
   pub unknown_command_in_user_mode : user_ran 12 1 0 (0x04 ∷ []) ≡ enters_with 12 1 0 (0x04 ∷ []) 4
   -- alarms 9 to 11, with the byte's virtual address; a page that is not writable is read, and run:
   -- at 2562 stands HALT
-  pub absent : told (user_ran 9 6 0 (storing_at 1030)) ≡ (step_answer.Entered 9, 1030)
-  pub forbidden_bit : told (user_ran 10 6 0 (storing_at 1540)) ≡ (step_answer.Entered 10, 1540)
-  pub frame_past_memory : told (user_ran 10 6 0 (storing_at 2050)) ≡ (step_answer.Entered 10, 2050)
-  pub read_only : told (user_ran 11 6 0 (storing_at 2561)) ≡ (step_answer.Entered 11, 2561)
+  pub absent : told (user_ran 9 6 0 (storing_at 1030)) ≡ (Ok (step_event.Entered 9), 1030)
+  pub forbidden_bit : told (user_ran 10 6 0 (storing_at 1540)) ≡ (Ok (step_event.Entered 10), 1540)
+  pub frame_past_memory : told (user_ran 10 6 0 (storing_at 2050)) ≡ (Ok (step_event.Entered 10), 2050)
+  pub read_only : told (user_ran 11 6 0 (storing_at 2561)) ≡ (Ok (step_event.Entered 11), 2561)
   pub read_only_read : register_after 0 (user_ran 11 6 0 (0x10 ∷ A 2561 ++ R 0)) ≡ 8
   pub read_only_run : told
       (step_of (desk_with (user_desk 6 0) (set (user_registers 0) 15 2562) 0 0 Running) (user_memory 13 []))
-      ≡ (step_answer.Entered 13, 0)
+      ≡ (Ok (step_event.Entered 13), 0)
   -- 13, with the command byte: RESUME in user mode; a system call in kernel mode
-  pub resume_in_user_mode : told (user_ran 13 1 0 (0x05 ∷ A 300)) ≡ (step_answer.Entered 13, 5)
+  pub resume_in_user_mode : told (user_ran 13 1 0 (0x05 ∷ A 300)) ≡ (Ok (step_event.Entered 13), 5)
   pub call_in_kernel_mode : ran_on 5 (0x03 ∷ I 1) ≡ stops_with 13 5 (0x03 ∷ I 1)
   -- 14, with "the operand's place from 1": the value 1 is no destination. 15: DIV W I 0,R0
-  pub no_destination : told (user_ran 14 1 0 (0x10 ∷ I 1 ++ I 1)) ≡ (step_answer.Entered 14, 2)
-  pub divide_by_zero : told (user_ran 15 1 0 (0x5A ∷ I 0 ++ R 0)) ≡ (step_answer.Entered 15, 0)
+  pub no_destination : told (user_ran 14 1 0 (0x10 ∷ I 1 ++ I 1)) ≡ (Ok (step_event.Entered 14), 2)
+  pub divide_by_zero : told (user_ran 15 1 0 (0x5A ∷ I 0 ++ R 0)) ≡ (Ok (step_event.Entered 15), 0)
   -- 16: entry 12 holds no kernel status; "all else as before the command", and nothing saved
   pub no_kernel_status : user_ran 8 1 0 (0x04 ∷ [])
       ≡ record {
         reply = record
-            { answer = step_answer.Stopped 16; desk = desk_with (user_desk 1 0) (user_registers 0) 0 0 (Stopped 16) };
+            { answer = Ok (step_event.Stopped 16); desk = desk_with (user_desk 1 0) (user_registers 0) 0 0 (Stopped 16) };
         memory = user_memory 8 (0x04 ∷ []);
       }
   -- a system call: "argument its value, saved R15 the next command"
@@ -196,7 +195,7 @@ pub record NearMisses : Type 0 where
   pub interrupt : step_of (level_desk 0x38) (user_memory 21 []) ≡ enters 21 (level_desk 0x38) [] (user_registers 0) 5 0x18
   pub no_interrupt : (step_of (level_desk 0x08) (user_memory 19 (0x10 ∷ I 0x80 ++ R 0))).reply
       ≡ record {
-        answer = step_answer.Done;
+        answer = Ok step_event.Done;
         desk = desk_with (user_desk 1 0)
             (set (set (user_registers 0) 0 0x80) 15 29) 0x38 0x08 Running;
       }
@@ -204,7 +203,7 @@ pub record NearMisses : Type 0 where
   pub resumes : step_of (kernel_desk 0 5) resume_memory
       ≡ record {
         reply = record {
-          answer = step_answer.Done;
+          answer = Ok step_event.Done;
           desk = record {
             registers = take 16 block;
             status = 0x31;
@@ -243,7 +242,7 @@ pub record NearMisses : Type 0 where
   pub trace : run_of 1000 fresh program
       ≡ record {
         reply = record {
-          answer = Accepted;
+          answer = Ok tt;
           steps = 2;
           desk = desk_with fresh (2 ∷ replicate 14 0 ++ 0x20E ∷ []) 0x8000_0000 0
               (Stopped 0);

@@ -1,5 +1,6 @@
 -- The refusals of a step in two parts: numbers 1 to 3, which a fresh desk is tried for too, and
 -- those after them.
+use Rattle.std.specs.Prelude.{Ok, Err}
 use Prim.Native.Nat.{ℕ}
 use mathlib.Core.Path.{◌≡◌, refl}
 use mathlib.Core.Bool.{Bool, true, false}
@@ -7,15 +8,13 @@ use mathlib.Core.List.{List, [], ◌∷◌, ◌++◌}
 use Rattle.machine.specs.declared.Desk.{Desk}
 use Rattle.machine.specs.declared.Refusal.{Refusal}
 use Rattle.machine.specs.declared.Refusal.TheVariants as refusal
-use Rattle.machine.specs.declared.Answer.{Answer}
-use Rattle.machine.specs.declared.Answer.TheVariants.{Accepted, Refused}
 use Rattle.machine.specs.State.{is_running}
-use Rattle.machine.specs.Calls.{passes4, passes5, first_refused, fresh_refusal, step_refusal}
+use Rattle.machine.specs.Calls.{Answer, passes4, passes5, first_refused, fresh_refusal, step_refusal}
 
 -- the first answer that refuses
 unfoldable pub or_else : Answer → Answer → Answer
-or_else Accepted a = a
-or_else (Refused k) a = Refused k
+or_else (Ok u) a = a
+or_else (Err k) a = Err k
 
 first_append : (ts us : List (Bool × Refusal)) → first_refused (ts ++ us) ≡ or_else (first_refused ts) (first_refused us)
 unfolding first_refused or_else

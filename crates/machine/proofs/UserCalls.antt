@@ -1,5 +1,6 @@
 -- What one call of a desk in user mode may do, whatever its commands are: no proof here looks into
 -- a command.
+use Rattle.std.specs.Prelude.{Ok, Err}
 use Prim.Native.Nat.{ℕ, zero, suc, ◌<◌}
 use mathlib.Core.Path.{◌≡◌, refl}
 use mathlib.Core.Bool.{Bool, true, false}
@@ -8,8 +9,6 @@ use native.Mathlib.Omega.{arith}
 use borrow.Author.Tests.{ltb-true, lt-ltb}
 use lib.ListN.{length, length-append}
 use Rattle.machine.specs.declared.Desk.{Desk}
-use Rattle.machine.specs.declared.Answer.{Answer}
-use Rattle.machine.specs.declared.Answer.TheVariants.{Accepted, Refused}
 use Rattle.machine.specs.Words.{Memory}
 use Rattle.machine.specs.State.{Registers, user_mode, level_of, flags_of, with_flags, valid_kernel_status, entry_r15}
 use Rattle.machine.specs.State.{entry_status, saved_bytes}
@@ -19,7 +18,7 @@ use Rattle.machine.specs.Commands.{Done, Completion, done, of_mode, SystemCall, 
 use Rattle.machine.specs.Steps.{Event, quiet, entered, stopped, Outcome, stop, completed, Plan, continues}
 use Rattle.machine.specs.Steps.{enters, due, user_written, of_user_command, interrupted, user_plan, enter_if}
 use Rattle.machine.specs.Steps.{concluded, user_step}
-use Rattle.machine.specs.Calls.{unchanged, unless_refused, request_refusal, request_outcome}
+use Rattle.machine.specs.Calls.{Answer, unchanged, unless_refused, request_refusal, request_outcome}
 use Rattle.machine.proofs.Writes.{Each}
 use Rattle.machine.proofs.Blocks.{words_length, registers_length}
 use Rattle.machine.proofs.Views.{EachLocated}
@@ -98,8 +97,8 @@ module _ (d : Desk) (P : ℕ → Type 0) (user : user_mode d.status ≡ true) wh
 
   pub unless_fit : (a : Answer) (o : Outcome) → FitOutcome d P o → FitOutcome d P (unless_refused a d o)
   unfolding unless_refused unchanged
-  unless_fit Accepted o h = h
-  unless_fit (Refused k) o h = (record { user = user; map = refl; system = refl; control = refl }, tt)
+  unless_fit (Ok u) o h = h
+  unless_fit (Err k) o h = (record { user = user; map = refl; system = refl; control = refl }, tt)
 
   pub request_fit : (level : ℕ) → FitOutcome d P (request_outcome d level)
   unfolding request_outcome

@@ -1,8 +1,9 @@
 -- Document 01, "Numbers 1 to 16", 8 to 15, and document 02, F-4, 21: the alarms, each with its
 -- number and its cause; a part of a command gives a value, or an alarm with its argument.
-use Rattle.std.specs.Prelude.{ℕ}
+use Rattle.std.specs.Prelude.{ℕ, Result, Ok, Err}
 use Rattle.machine.specs.declared.Alarm.{Alarm}
 use Rattle.machine.specs.declared.Alarm.TheVariants as alarms
+use Rattle.machine.specs.declared.Fault.{Fault}
 
 -- an alarm's number, and the cause of the kernel entry that it makes, which is the entry of the
 -- system block too
@@ -55,3 +56,8 @@ infixl 10 ◌>>=◌
 abbrev pub ◌>>=◌ : {A B : Type 0} → OrAlarm A → (A → OrAlarm B) → OrAlarm B
 got a >>= f = f a
 alarm k x >>= f = alarm k x
+
+-- the code's answer for a part of a command, whose value stands for what f makes of it
+abbrev pub answered : {A B : Type 0} → (A → B) → Result A Fault → OrAlarm B
+answered f (Ok x) = got (f x)
+answered f (Err e) = alarm e.alarm e.argument

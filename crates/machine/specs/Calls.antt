@@ -1,6 +1,6 @@
 -- Document 01, "Numbers 1 to 16": the refusals 1 to 7, and the four calls, for every input: a fresh
 -- desk, a step, a run, a level request.
-use Rattle.std.specs.Prelude.{ℕ, zero, suc, Bool, not, ◌&&◌, List, [], ◌∷◌, leb, length, replicate, set}
+use Rattle.std.specs.Prelude.{ℕ, zero, suc, Bool, not, ◌&&◌, ◌≡◌, List, [], ◌∷◌, leb, length, replicate, set, Result, Ok, Err}
 use Rattle.machine.specs.declared.VirtualAddress.{VirtualAddress}
 use Rattle.machine.specs.declared.RealAddress.{RealAddress}
 use Rattle.machine.specs.declared.Map.{Map}
@@ -8,10 +8,8 @@ use Rattle.machine.specs.declared.Mark.TheVariants.{Running, Stopped}
 use Rattle.machine.specs.declared.Desk.{Desk}
 use Rattle.machine.specs.declared.Refusal.{Refusal}
 use Rattle.machine.specs.declared.Refusal.TheVariants as refusal
-use Rattle.machine.specs.declared.Answer.{Answer}
-use Rattle.machine.specs.declared.Answer.TheVariants.{Accepted, Refused}
-use Rattle.machine.specs.declared.StepAnswer.{StepAnswer}
-use Rattle.machine.specs.declared.StepAnswer.TheVariants as step_answer
+use Rattle.machine.specs.declared.StepEvent.{StepEvent}
+use Rattle.machine.specs.declared.StepEvent.TheVariants as step_event
 use Rattle.machine.specs.declared.Reply.{Reply}
 use Rattle.machine.specs.declared.StepReply.{StepReply}
 use Rattle.machine.specs.declared.RunReply.{RunReply}
@@ -40,10 +38,22 @@ refusal_number refusal.Level = 6
 -- "A step or run was wanted of a stopped desk."
 refusal_number refusal.Stopped = 7
 
--- 0 for none
+-- whether a call was carried out: Ok tt, or Err with the refusal
+abbrev pub Answer : Type 0
+Answer = Result (Unit {0}) Refusal
+
+-- 0 for none, by the number of each refusal
+abbrev pub number_or_0 : {R : Type 0} → (R → ℕ) → Result (Unit {0}) R → ℕ
+number_or_0 number (Ok u) = 0
+number_or_0 number (Err k) = number k
+
 abbrev pub answer_number : Answer → ℕ
-answer_number Accepted = 0
-answer_number (Refused k) = refusal_number k
+answer_number = number_or_0 refusal_number
+
+-- the same where the refusals' numbers are known as a relation
+abbrev pub AnswerNumber : {R : Type 0} → (R → ℕ → Type 0) → Result (Unit {0}) R → ℕ → Type 0
+AnswerNumber Number (Ok u) n = n ≡ 0
+AnswerNumber Number (Err k) n = Number k n
 
 -- number k has nothing to refuse; n is the memory's length
 
@@ -67,8 +77,8 @@ passes6 level = leb 1 level && leb level 15
 
 -- "Refusals 1 to 7 are tried in number order": the first of a list whose test does not hold
 unfoldable pub first_refused : List (Bool × Refusal) → Answer
-first_refused [] = Accepted
-first_refused (t ∷ ts) = pick t.0 (first_refused ts) (Refused t.1)
+first_refused [] = Ok tt
+first_refused (t ∷ ts) = pick t.0 (first_refused ts) (Err t.1)
 
 -- "no map": an empty one at 0
 abbrev pub no_map : Map
@@ -105,8 +115,8 @@ zero_desk k = record {
 }
 
 unfoldable pub fresh_reply : Answer → Desk → Reply
-fresh_reply Accepted d = record { answer = Accepted; desk = d }
-fresh_reply (Refused k) d = record { answer = Refused k; desk = zero_desk (refusal_number k) }
+fresh_reply (Ok u) d = record { answer = Ok tt; desk = d }
+fresh_reply (Err k) d = record { answer = Err k; desk = zero_desk (refusal_number k) }
 
 unfoldable pub fresh_of : ℕ → RealAddress → RealAddress → VirtualAddress → Reply
 fresh_of n system control start = fresh_reply (fresh_refusal n system control) (fresh_desk system control start)
@@ -127,30 +137,33 @@ unfoldable pub unchanged : Desk → Outcome
 unchanged d = record { desk = d; event = quiet; writes = [] }
 
 unfoldable pub unless_refused : Answer → Desk → Outcome → Outcome
-unless_refused Accepted d o = o
-unless_refused (Refused k) d o = unchanged d
+unless_refused (Ok u) d o = o
+unless_refused (Err k) d o = unchanged d
 
 unfoldable pub step_outcome : Desk → Memory → Outcome
 step_outcome d m = unless_refused (step_refusal d (length m)) d (one_step d m)
 
 -- the answer in the code's terms
+abbrev pub StepAnswer : Type 0
+StepAnswer = Result StepEvent Refusal
+
 abbrev pub event_answer : Event → StepAnswer
-event_answer quiet = step_answer.Done
-event_answer (entered i saved) = step_answer.Entered i
-event_answer (stopped n) = step_answer.Stopped n
+event_answer quiet = Ok step_event.Done
+event_answer (entered i saved) = Ok (step_event.Entered i)
+event_answer (stopped n) = Ok (step_event.Stopped n)
 
 abbrev pub step_answered : Answer → Event → StepAnswer
-step_answered Accepted e = event_answer e
-step_answered (Refused k) e = step_answer.Refused k
+step_answered (Ok u) e = event_answer e
+step_answered (Err k) e = Err k
 
 -- the paper's number of a step's answer: a refusal's, a cause, a stop's number; 0 for a command
 -- done, for which the paper has none. The case tells which it is: 0 is also HALT's stop, 1 also the
 -- cause of a system call, 2 also that of alarm 21, and 8 to 15 are causes and stops
 abbrev pub step_answer_number : StepAnswer → ℕ
-step_answer_number (step_answer.Refused k) = refusal_number k
-step_answer_number step_answer.Done = 0
-step_answer_number (step_answer.Entered i) = i
-step_answer_number (step_answer.Stopped n) = n
+step_answer_number (Err k) = refusal_number k
+step_answer_number (Ok step_event.Done) = 0
+step_answer_number (Ok (step_event.Entered i)) = i
+step_answer_number (Ok (step_event.Stopped n)) = n
 
 -- a reply with the memory that it leaves
 pub record Stepped : Type 0 where
@@ -196,14 +209,14 @@ ran a k d m = record { reply = record { answer = a; steps = k; desk = d }; memor
 -- runs
 unfoldable pub steps_of : ℕ → ℕ → Desk → Memory → Ran
 -- "0 steps on a running desk is allowed"
-steps_of zero k d m = ran Accepted k d m
+steps_of zero k d m = ran (Ok tt) k d m
 steps_of (suc n) k d m =
     pick (is_running d.mark) (steps_of n (suc k) (step_outcome d m).desk (commit (step_outcome d m).writes m))
-    (ran Accepted k d m)
+    (ran (Ok tt) k d m)
 
 unfoldable pub run_unless : Answer → Desk → Memory → Ran → Ran
-run_unless Accepted d m o = o
-run_unless (Refused k) d m o = ran (Refused k) 0 d m
+run_unless (Ok u) d m o = o
+run_unless (Err k) d m o = ran (Err k) 0 d m
 
 unfoldable pub run_of : ℕ → Desk → Memory → Ran
 run_of n d m = run_unless (step_refusal d (length m)) d m (steps_of n 0 d m)

@@ -7,7 +7,7 @@ use Rattle.machine.specs.declared.Access.TheVariants.{Fetch, Read}
 use Rattle.machine.specs.declared.Alarm.TheVariants as alarms
 use Rattle.machine.specs.declared.Target.{Target}
 use Rattle.machine.specs.declared.Target.TheVariants.{Nowhere, Register, Memory}
-use Rattle.machine.specs.declared.Result.{Result}
+use Rattle.machine.specs.declared.IntegerResult.{IntegerResult}
 use Rattle.machine.specs.declared.Kind.{Kind}
 use Rattle.machine.specs.declared.FloatResult.{FloatResult}
 use Rattle.machine.specs.Words.{pick, length_of, kind_length, span, bytes_of, raised, lowered}
@@ -38,7 +38,7 @@ unfoldable pub kept_rest : ℕ → ℕ → ℕ → ℕ
 kept_rest L old x = old / span L * span L + natural L x
 
 -- a result of L bytes goes to its target; every command that gives a result has one
-unfoldable pub stored : ℕ → Result → Target → Registers → Done
+unfoldable pub stored : ℕ → IntegerResult → Target → Registers → Done
 stored L x Nowhere r = record { registers = r; flags = x.flags; writes = [] }
 stored L x (Register i) r =
     record { registers = set r i (kept_rest L (reg r i) x.value); flags = x.flags; writes = [] }

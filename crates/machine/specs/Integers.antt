@@ -5,7 +5,7 @@ use Rattle.std.proofs.Math.IntN.{sub_ℕ}
 use Rattle.std.specs.Int.Signed.{le_z, lt_z, non_neg, quot_z, shr_z}
 use Rattle.std.specs.Int.Bits.{bit_and, bit_or, bit_xor}
 use Rattle.machine.specs.declared.Alarm.TheVariants as alarms
-use Rattle.machine.specs.declared.Result.{Result}
+use Rattle.machine.specs.declared.IntegerResult.{IntegerResult}
 use Rattle.machine.specs.Words.{pick, span}
 use Rattle.machine.specs.State.{flags}
 use Rattle.machine.specs.Alarms.{OrAlarm, got, alarm}
@@ -45,15 +45,15 @@ kept L z = modulo (span L) z
 -- ---- Results with flags
 
 -- "N and Z from the result"
-unfoldable pub result_of : ℕ → ℕ → Bool → Bool → Result
+unfoldable pub result_of : ℕ → ℕ → Bool → Bool → IntegerResult
 result_of L x v c = record { value = x; flags = flags (negative L x) (eqb x 0) v c }
 
 -- "V = C = 0"
-abbrev pub plain : ℕ → ℕ → Result
+abbrev pub plain : ℕ → ℕ → IntegerResult
 plain L x = result_of L x false false
 
 -- "V when the exact signed result doesn't fit"
-abbrev pub exact : ℕ → ℤ → Bool → Result
+abbrev pub exact : ℕ → ℤ → Bool → IntegerResult
 exact L z c = result_of L (kept L z) (not (fits L z)) c
 
 -- ---- Operations
@@ -63,41 +63,41 @@ complement L a = span L - 1 - a
 
 -- "ADD, SUB, MOVEN (0 minus its operand) set V when the exact signed result doesn't fit, C on
 -- unsigned carry or borrow"
-unfoldable pub added : ℕ → ℕ → ℕ → Result
+unfoldable pub added : ℕ → ℕ → ℕ → IntegerResult
 added L a b = exact L (signed L b +ℤ signed L a) (leb (span L) (b + a))
 
-unfoldable pub subtracted : ℕ → ℕ → ℕ → Result
+unfoldable pub subtracted : ℕ → ℕ → ℕ → IntegerResult
 subtracted L a b = exact L (signed L b -ℤ signed L a) (ltb b a)
 
 -- "MULT and DIV set V likewise"
-unfoldable pub multiplied : ℕ → ℕ → ℕ → Result
+unfoldable pub multiplied : ℕ → ℕ → ℕ → IntegerResult
 multiplied L a b = exact L (signed L b *ℤ signed L a) false
 
 -- "DIV drops the fraction, and lowest ÷ −1 gives lowest"
-unfoldable pub divided : ℕ → ℕ → ℕ → Result
+unfoldable pub divided : ℕ → ℕ → ℕ → IntegerResult
 divided L a b = exact L (quot_z (signed L b) (signed L a)) false
 
 -- a zero bit from the right each time; document 02, F-2, in place of a rule on signs: "V is set
 -- exactly when the signed operand times 2 to the power of the count, as a whole number, doesn't fit
 -- a signed word"
-unfoldable pub shifted_left : ℕ → ℕ → Result
+unfoldable pub shifted_left : ℕ → ℕ → IntegerResult
 shifted_left n b = result_of 4 (b * 2 ^ n % span 4) (not (fits 4 (signed 4 b *ℤ pos (2 ^ n)))) false
 
 -- b0 from the left each time
-unfoldable pub shifted_right : ℕ → ℕ → Result
+unfoldable pub shifted_right : ℕ → ℕ → IntegerResult
 shifted_right n b = plain 4 (kept 4 (shr_z (signed 4 b) (2 ^ n)))
 
 -- to the left where the count S[a1] is not negative, else to the right by its size
-unfoldable pub shifted : ℕ → ℕ → Result
+unfoldable pub shifted : ℕ → ℕ → IntegerResult
 shifted a b = let n = signed 4 a in pick (non_neg n) (shifted_left (nat_abs n) b) (shifted_right (nat_abs n) b)
 
 -- S[a1] times to the left, the bit that goes out coming in on the right; 32 times is none, and once
 -- to the right is 31 times to the left
-unfoldable pub rotated : ℕ → ℕ → Result
+unfoldable pub rotated : ℕ → ℕ → IntegerResult
 rotated a b = let n = modulo 32 (signed 4 a) in plain 4 ((b * 2 ^ n + b / 2 ^ (32 - n)) % span 4)
 
 -- 15: "DIV by zero", its argument zero
-unfoldable pub operate : Operation → ℕ → ℕ → ℕ → OrAlarm Result
+unfoldable pub operate : Operation → ℕ → ℕ → ℕ → OrAlarm IntegerResult
 operate MOVE L a b = got (plain L a)
 operate CLEAR L a b = got (plain L 0)
 operate MOVEN L a b = got (subtracted L a 0)

@@ -3,17 +3,16 @@
 -- equal except in memory. "Each desk starts from the state and memory handed in, also where calls
 -- refuse them or the desk is already stopped": no validity of state or memory is assumed. "Demand 3
 -- means the map, its entries and the reached frames as they are before the first call."
-use Rattle.std.specs.Prelude.{ℕ, suc, ◌+◌, ◌≤◌, ◌<◌, true, ◌≡◌, List, [], ◌∷◌, ◌↔◌, length}
+use Rattle.std.specs.Prelude.{ℕ, suc, ◌+◌, ◌≤◌, ◌<◌, true, ◌≡◌, List, [], ◌∷◌, ◌↔◌, length, Ok, Err}
 use Rattle.std.proofs.Math.Option.{Option, none, some}
 use Rattle.std.proofs.lemmas.List.Edits.{sets}
 use Rattle.machine.specs.declared.Desk.{Desk}
-use Rattle.machine.specs.declared.Answer.{Answer}
 use Rattle.machine.specs.declared.FrameNumber.{FrameNumber}
 use Rattle.machine.specs.Words.{Memory, byte_at}
 use Rattle.machine.specs.State.{user_mode, frame_around, system_block_bytes, saved_byte_count}
 use Rattle.machine.specs.Map.{Reached, WritableReached, InMap, commit}
 use Rattle.machine.specs.Steps.{Event, quiet, entered, stopped, Outcome}
-use Rattle.machine.specs.Calls.{step_refusal, step_outcome, request_refusal, request_outcome}
+use Rattle.machine.specs.Calls.{Answer, step_refusal, step_outcome, request_refusal, request_outcome}
 
 -- ---- The list
 

@@ -2,7 +2,7 @@
 -- allowed." The rules are `fetchable`, `allows_fetch`, `in_number_order` of Map and `alarm_numbers` of
 -- Alarms. Here is what they say of every page, and worked steps. The proof is
 -- `pages_without_commands` of proofs/PagesWithoutCommands.antt.
-use Rattle.std.specs.Prelude.{ℕ, ◌+◌, ◌*◌, ◌<◌, ◌≡◌, true, false, List, [], ◌∷◌, ◌++◌, length, replicate}
+use Rattle.std.specs.Prelude.{ℕ, ◌+◌, ◌*◌, ◌<◌, ◌≡◌, true, false, List, [], ◌∷◌, ◌++◌, length, replicate, Ok}
 use Rattle.std.proofs.lemmas.List.Edits.{sets}
 use Rattle.machine.specs.declared.Access.{Access}
 use Rattle.machine.specs.declared.Access.TheVariants.{Fetch, Read, Write}
@@ -12,8 +12,7 @@ use Rattle.machine.specs.declared.Desk.{Desk}
 use Rattle.machine.specs.declared.FrameNumber.{FrameNumber}
 use Rattle.machine.specs.declared.Map.{Map}
 use Rattle.machine.specs.declared.Mark.TheVariants.{Running}
-use Rattle.machine.specs.declared.StepAnswer.{StepAnswer}
-use Rattle.machine.specs.declared.StepAnswer.TheVariants as step_answer
+use Rattle.machine.specs.declared.StepEvent.TheVariants as step_event
 use Rattle.machine.specs.declared.VirtualAddress.{VirtualAddress}
 use Rattle.machine.specs.Words.{Memory, bytes_of, bytes_of_words, byte_at, word_at}
 use Rattle.machine.specs.State.{Registers, reg, user_mode, level_of, system_block_of, saved_bytes}
@@ -21,7 +20,7 @@ use Rattle.machine.specs.Alarms.{alarm_cause, got, alarm}
 use Rattle.machine.specs.Map.{page_of, map_entry, present, writable, fetchable, frame_of, undamaged, found_at, in_frame}
 use Rattle.machine.specs.Map.{mapped, view_by, Names, Reached, WritableReached}
 use Rattle.machine.specs.Steps.{due, enters, concluded, one_step}
-use Rattle.machine.specs.Calls.{Stepped, step_of}
+use Rattle.machine.specs.Calls.{StepAnswer, Stepped, step_of}
 use Rattle.machine.specs.TriedValues.{I, A, R, register_after}
 
 -- ---- Of every page
@@ -124,24 +123,24 @@ pub record PagesWithoutCommands : Type 0 where
   pub jumped_there : step_at 2 528
       ≡ record {
         reply = record
-            { answer = step_answer.Entered 2; desk = pages_desk 0x8000_0000 0 0 0x100 };
+            { answer = Ok (step_event.Entered 2); desk = pages_desk 0x8000_0000 0 0 0x100 };
         memory = sets (pages_memory 2 0 []) 256 (saved_bytes (pages_registers 0 528) 0 528);
       }
   -- each of the six bytes of an operand: the first, .., the last is at 512, in page 1; saved R15 is
   -- the command's own address
-  pub operand_byte_1 : told (jump_across 511) ≡ (step_answer.Entered 2, 512, 511)
-  pub operand_byte_2 : told (jump_across 510) ≡ (step_answer.Entered 2, 512, 510)
-  pub operand_byte_3 : told (jump_across 509) ≡ (step_answer.Entered 2, 512, 509)
-  pub operand_byte_4 : told (jump_across 508) ≡ (step_answer.Entered 2, 512, 508)
-  pub operand_byte_5 : told (jump_across 507) ≡ (step_answer.Entered 2, 512, 507)
-  pub operand_byte_6 : told (jump_across 506) ≡ (step_answer.Entered 2, 512, 506)
+  pub operand_byte_1 : told (jump_across 511) ≡ (Ok (step_event.Entered 2), 512, 511)
+  pub operand_byte_2 : told (jump_across 510) ≡ (Ok (step_event.Entered 2), 512, 510)
+  pub operand_byte_3 : told (jump_across 509) ≡ (Ok (step_event.Entered 2), 512, 509)
+  pub operand_byte_4 : told (jump_across 508) ≡ (Ok (step_event.Entered 2), 512, 508)
+  pub operand_byte_5 : told (jump_across 507) ≡ (Ok (step_event.Entered 2), 512, 507)
+  pub operand_byte_6 : told (jump_across 506) ≡ (Ok (step_event.Entered 2), 512, 506)
   -- and none of them: the jump is done
   pub no_operand_byte : register_after 15 (jump_across 505) ≡ 16
   -- "tried after 10": 9, since "An absent entry's other bits mean nothing"; 10 twice; and 8
-  pub absent : told (step_at 9 1552) ≡ (step_answer.Entered 9, 1552, 1552)
-  pub forbidden_bit : told (step_at 10 2064) ≡ (step_answer.Entered 10, 2064, 2064)
-  pub frame_past_memory : told (step_at 10 2576) ≡ (step_answer.Entered 10, 2576, 2576)
-  pub page_past_map : told (step_at 8 3088) ≡ (step_answer.Entered 8, 3088, 3088)
+  pub absent : told (step_at 9 1552) ≡ (Ok (step_event.Entered 9), 1552, 1552)
+  pub forbidden_bit : told (step_at 10 2064) ≡ (Ok (step_event.Entered 10), 2064, 2064)
+  pub frame_past_memory : told (step_at 10 2576) ≡ (Ok (step_event.Entered 10), 2576, 2576)
+  pub page_past_map : told (step_at 8 3088) ≡ (Ok (step_event.Entered 8), 3088, 3088)
   -- read are, at 1124, byte 100 of page 2: a value, by MOVE W 1124,R0; the word of form 5, by
   -- MOVEA; the stack, by RET and by POPR
   pub value_read : register_after 0 (pages_ran 2 0 (0x12 ∷ A 1124 ++ R 0)) ≡ 0x0102_0304
@@ -152,10 +151,10 @@ pub record PagesWithoutCommands : Type 0 where
   -- Page 2 is not writable: 11
   pub result_written : byte_at (pages_ran 2 0 (0x10 ∷ I 9 ++ A 612)).memory 1124 ≡ 9
   pub stack_written : word_at (pages_ran 2 616 (0x79 ∷ A 16)).memory 1124 ≡ 23
-  pub not_written : told (pages_ran 11 0 (0x10 ∷ I 9 ++ A 1124)) ≡ (step_answer.Entered 11, 1124, 16)
+  pub not_written : told (pages_ran 11 0 (0x10 ∷ I 9 ++ A 1124)) ≡ (Ok (step_event.Entered 11), 1124, 16)
   -- "In kernel mode an address is real": HALT runs at 1040, in frame 2
-  pub kernel_mode : (step_of (pages_desk 0x8000_0000 0 0 1040) (pages_memory 2 0 [])).reply.answer ≡ step_answer.Stopped 0
+  pub kernel_mode : (step_of (pages_desk 0x8000_0000 0 0 1040) (pages_memory 2 0 [])).reply.answer ≡ Ok (step_event.Stopped 0)
   -- level 5 comes first, and entry 21 is its own
-  pub level_5 : told (step_of (pages_desk 0 0x20 0 528) (pages_memory 21 0 [])) ≡ (step_answer.Entered 21, 5, 528)
+  pub level_5 : told (step_of (pages_desk 0 0x20 0 528) (pages_memory 21 0 [])) ≡ (Ok (step_event.Entered 21), 5, 528)
   -- entry 2 has no kernel status, though 21 has: 16
-  pub no_entry_2 : (step_at 21 528).reply.answer ≡ step_answer.Stopped 16
+  pub no_entry_2 : (step_at 21 528).reply.answer ≡ Ok (step_event.Stopped 16)

@@ -1,11 +1,11 @@
 // The MI desk's types. What they mean is defined in specs/, in document 01's order.
 #![tactic(auto)]
 
-ghost use Rattle.std.specs.Prelude.{eqb, ◌≡◌};
-ghost use Rattle.machine.specs.Words.{length_of, pick};
-ghost use Rattle.machine.specs.Alarms.{alarm_cause, alarm_number, alarm_numbers, its_own_cause};
+ghost use Rattle.std.specs.Prelude.{◌≡◌};
+ghost use Rattle.machine.specs.Words.{length_of};
+ghost use Rattle.machine.specs.Alarms.{alarm_cause, alarm_number};
 ghost use Rattle.machine.specs.Words.{kind_length};
-ghost use Rattle.machine.specs.Calls.{refusal_number, answer_number, step_answer_number};
+ghost use Rattle.machine.specs.Calls.{refusal_number, AnswerNumber, step_answer_number};
 
 // The bytes of the system block and of the control block.
 pub const SYSTEM_BLOCK_BYTES: u64 = 256;
@@ -72,7 +72,7 @@ pub enum Target {
 
 // What an operation gives: a value and the flags that it sets.
 #[derive(Clone, Copy)]
-pub struct Result {
+pub struct IntegerResult {
     pub value: u32,
     pub flags: u32,
 }
@@ -93,18 +93,25 @@ pub struct FloatResult {
     pub flags: u32,
 }
 
-// Why a command was broken off: alarms 8 to 15 and 21.
-#[derive(Clone, Copy)]
+// Why a command was broken off: alarms 8 to 15 and 21, each with its number in documents 01 and 02.
+#[derive(Clone, Copy, Debug, PartialEq, Eq)]
 pub enum Alarm {
-    Address,
-    Absent,
-    MapEntry,
-    ReadOnly,
-    Command,
-    Mode,
-    Operand,
-    Divide,
-    NoFetch,
+    Address = 8,
+    Absent = 9,
+    MapEntry = 10,
+    ReadOnly = 11,
+    Command = 12,
+    Mode = 13,
+    Operand = 14,
+    Divide = 15,
+    NoFetch = 21,
+}
+
+// An alarm and its argument: what breaks a command off.
+#[derive(Clone, Copy, Debug, PartialEq, Eq)]
+pub struct Fault {
+    pub alarm: Alarm,
+    pub argument: u32,
 }
 
 // Where the map lies: its base, and its length in entries.
@@ -134,30 +141,21 @@ pub struct Desk {
     pub mark: Mark,
 }
 
-// Why a call was refused: numbers 1 to 7.
-#[derive(Clone, Copy)]
+// Why a call was refused, each with its number in document 01.
+#[derive(Clone, Copy, Debug, PartialEq, Eq)]
 pub enum Refusal {
-    Length,
-    SystemBlock,
-    ControlBlock,
-    Map,
-    Status,
-    Level,
-    Stopped,
+    Length = 1,
+    SystemBlock = 2,
+    ControlBlock = 3,
+    Map = 4,
+    Status = 5,
+    Level = 6,
+    Stopped = 7,
 }
 
-// Whether a call was carried out.
-#[derive(Clone, Copy)]
-pub enum Answer {
-    Accepted,
-    Refused(Refusal),
-}
-
-// What a step came to: refused; a command done; a kernel entry with its cause; a stop with its
-// number.
-#[derive(Clone, Copy)]
-pub enum StepAnswer {
-    Refused(Refusal),
+// What a step came to: a command done; a kernel entry with its cause; a stop with its number.
+#[derive(Clone, Copy, Debug, PartialEq, Eq)]
+pub enum StepEvent {
     Done,
     Entered(u32),
     Stopped(u32),
@@ -166,21 +164,21 @@ pub enum StepAnswer {
 // What the call for a fresh desk and a level request hand back.
 #[derive(Clone, Copy)]
 pub struct Reply {
-    pub answer: Answer,
+    pub answer: Result<(), Refusal>,
     pub desk: Desk,
 }
 
 // What a step hands back.
 #[derive(Clone, Copy)]
 pub struct StepReply {
-    pub answer: StepAnswer,
+    pub answer: Result<StepEvent, Refusal>,
     pub desk: Desk,
 }
 
 // What a run hands back: steps counts those that it made.
 #[derive(Clone, Copy)]
 pub struct RunReply {
-    pub answer: Answer,
+    pub answer: Result<(), Refusal>,
     pub steps: u64,
     pub desk: Desk,
 }
@@ -211,87 +209,54 @@ impl Kind {
 }
 
 impl Alarm {
-    // Its place in a count from 8 on: of 8 to 15 the number and the cause, of 21 it is 16. The
-    // compiler makes a sum of a count without gaps, where the numbers themselves need a table.
-    fn count(self) -> u32
-        ensures { alarm_numbers self ≡ pick (eqb result 16) (alarm_numbers Alarm.NoFetch) (its_own_cause result) }
-    {
-        match self {
-            Alarm::Address => 8,
-            Alarm::Absent => 9,
-            Alarm::MapEntry => 10,
-            Alarm::ReadOnly => 11,
-            Alarm::Command => 12,
-            Alarm::Mode => 13,
-            Alarm::Operand => 14,
-            Alarm::Divide => 15,
-            Alarm::NoFetch => 16,
-        }
-    }
-
     // Its number in documents 01 and 02.
     pub fn number(self) -> u32
         ensures { result ≡ alarm_number self }
     {
-        let n = self.count();
-        if n == 16 {
-            return 21;
-        }
-        n
+        self as u32
     }
 
     // The cause of the kernel entry that it makes in user mode: its number, but 2 for 21.
     pub fn cause(self) -> u32
         ensures { result ≡ alarm_cause self }
     {
-        let n = self.count();
-        if n == 16 {
-            return 2;
-        }
-        n
-    }
-}
-
-impl Refusal {
-    // Its number in document 01.
-    pub fn number(self) -> u32
-        ensures { result ≡ refusal_number self }
-    {
-        match self {
-            Refusal::Length => 1,
-            Refusal::SystemBlock => 2,
-            Refusal::ControlBlock => 3,
-            Refusal::Map => 4,
-            Refusal::Status => 5,
-            Refusal::Level => 6,
-            Refusal::Stopped => 7,
+        if self == Alarm::NoFetch {
+            2
+        } else {
+            self as u32
         }
     }
 }
 
-impl Answer {
-    // The number of its refusal, or 0.
-    pub fn number(self) -> u32
-        ensures { result ≡ answer_number self }
-    {
-        match self {
-            Answer::Accepted => 0,
-            Answer::Refused(k) => k.number(),
-        }
+// ---- The numbers of the answers
+
+impl From<Refusal> for u32 {
+    ghost from_gives = { λ k n. n ≡ refusal_number k };
+
+    fn from(refusal: Refusal) -> u32 {
+        refusal as u32
     }
 }
 
-impl StepAnswer {
-    // The number of its refusal, its cause or its stop; 0 for a command done. The case tells which:
-    // 0 is also a HALT, 1 also a system call, 2 also alarm 21.
-    pub fn number(self) -> u32
-        ensures { result ≡ step_answer_number self }
-    {
-        match self {
-            StepAnswer::Refused(k) => k.number(),
-            StepAnswer::Done => 0,
-            StepAnswer::Entered(cause) => cause,
-            StepAnswer::Stopped(n) => n,
-        }
+// The number of a call's refusal, or 0.
+pub fn answer_number<R: Into<u32>>(answer: Result<(), R>) -> u32
+    ensures { AnswerNumber R.converts answer result }
+{
+    match answer {
+        Ok(()) => 0,
+        Err(refusal) => refusal.into(),
+    }
+}
+
+// The number of a step's refusal, its cause or its stop; 0 for a command done. The case tells which:
+// 0 is also a HALT, 1 also a system call, 2 also alarm 21.
+pub fn step_answer_number(answer: Result<StepEvent, Refusal>) -> u32
+    ensures { result ≡ step_answer_number answer }
+{
+    match answer {
+        Ok(StepEvent::Done) => 0,
+        Ok(StepEvent::Entered(cause)) => cause,
+        Ok(StepEvent::Stopped(n)) => n,
+        Err(refusal) => u32::from(refusal),
     }
 }

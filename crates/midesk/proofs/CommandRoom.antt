@@ -13,8 +13,8 @@ use Rattle.machine.specs.declared.Size.{Size}
 use Rattle.machine.specs.declared.Size.TheVariants.{B, H, W}
 use Rattle.machine.specs.declared.Target.{Target}
 use Rattle.machine.specs.declared.Target.TheVariants as target
-use Rattle.machine.specs.declared.Result.{Result}
-use Rattle.machine.specs.Words.{pick, Memory, length_of, kind_length, span, bytes_of, raised, lowered}
+use Rattle.machine.specs.declared.IntegerResult.{IntegerResult}
+use Rattle.machine.specs.Words.{pick, length_of, kind_length, span, bytes_of, raised, lowered}
 use Rattle.machine.specs.State.{Registers, reg}
 use Rattle.machine.specs.Alarms.{OrAlarm}
 use Rattle.machine.specs.Map.{View, read_bytes, VirtualWrites, writes_from}
@@ -65,7 +65,7 @@ rest_held B old x h = omega arith
 rest_held H old x h = omega arith
 rest_held W old x h = omega arith
 
-stored_held : (s : Size) (x : Result) (t : Target) (r : Registers) → Sixteen r → HeldDone (stored (length_of s) x t r)
+stored_held : (s : Size) (x : IntegerResult) (t : Target) (r : Registers) → Sixteen r → HeldDone (stored (length_of s) x t r)
 unfolding stored
 stored_held s x target.Nowhere r h = record { registers = h; writes = tt }
 stored_held s x (target.Register i) r h =

@@ -1,6 +1,7 @@
 -- What a run leaves in bytes is what as many calls of `midesk_step` leave, one after another. The
 -- bytes of a state hold all of the desk that a step leaves (StepRoom.antt), so between two steps
 -- they may be taken for it.
+use Rattle.std.specs.Prelude.{Ok, Err}
 use Prim.Native.Nat.{ℕ, zero, suc, ◌+◌, ◌≤◌, ◌<◌}
 use mathlib.Core.Path.{◌≡◌, refl}
 use mathlib.Core.Bool.{Bool, true, false}
@@ -10,13 +11,11 @@ use native.Mathlib.Omega.{arith}
 use lib.ListN.{length}
 use Rattle.machine.specs.declared.Refusal.{Refusal}
 use Rattle.machine.specs.declared.Refusal.TheVariants as refusal
-use Rattle.machine.specs.declared.Answer.{Answer}
-use Rattle.machine.specs.declared.Answer.TheVariants.{Accepted, Refused}
 use Rattle.machine.specs.Words.{pick, Memory}
 use Rattle.machine.specs.State.{is_running}
 use Rattle.machine.specs.Map.{commit}
 use Rattle.machine.specs.Steps.{Event, quiet, entered, stopped}
-use Rattle.machine.specs.Calls.{refusal_number, step_refusal, unless_refused, step_outcome, event_answer, step_of, Ran, ran}
+use Rattle.machine.specs.Calls.{Answer, refusal_number, step_refusal, unless_refused, step_outcome, event_answer, step_of, Ran, ran}
 use Rattle.machine.specs.Calls.{steps_of, run_unless, run_of}
 use Rattle.machine.proofs.Writes.{commit-length}
 use Rattle.machine.proofs.Accepted.{Passes, passes, accepted, step_lasts}
@@ -78,18 +77,18 @@ module _ (b : List ℕ) (m : Memory) (s : State b) (h : Below 256 m) where
 -- and they are n unless the desk stopped
 record After (n k : ℕ) (b : List ℕ) (m : Memory) (r : Ran) : Type 0 where
   calls : ℕ
-  answer : r.reply.answer ≡ Accepted
+  answer : r.reply.answer ≡ Ok tt
   steps : r.reply.steps ≡ k + calls
   state : packed r.reply.desk ≡ (step_calls calls b m).state
   memory : r.memory ≡ (step_calls calls b m).memory
   accepted : (i : ℕ) → i < calls
-      → step_refusal (unpacked (step_calls i b m).state) (length (step_calls i b m).memory) ≡ Accepted
+      → step_refusal (unpacked (step_calls i b m).state) (length (step_calls i b m).memory) ≡ Ok tt
   most : calls ≤ n
   fewer : calls < n → is_running (unpacked (step_calls calls b m).state).mark ≡ false
 
 -- no step
 none : (n k : ℕ) (b : List ℕ) (m : Memory) → State b → (0 < n → is_running (unpacked b).mark ≡ false)
-    → After n k b m (ran Accepted k (unpacked b) m)
+    → After n k b m (ran (Ok tt) k (unpacked b) m)
 unfolding step_calls
 none n k b m s end = record {
   calls = 0;
@@ -103,7 +102,7 @@ none n k b m s end = record {
 }
 
 -- one call, then others
-more : (n k : ℕ) (b : List ℕ) (m : Memory) (r : Ran) → step_refusal (unpacked b) (length m) ≡ Accepted
+more : (n k : ℕ) (b : List ℕ) (m : Memory) (r : Ran) → step_refusal (unpacked b) (length m) ≡ Ok tt
     → After n (suc k) (step_call b m).state (step_call b m).memory r → After (suc n) k b m r
 unfolding step_calls
 more n k b m r first h = record {
@@ -118,7 +117,7 @@ more n k b m r first h = record {
 }
   where
     each : (i : ℕ) → i < suc h.calls
-        → step_refusal (unpacked (step_calls i b m).state) (length (step_calls i b m).memory) ≡ Accepted
+        → step_refusal (unpacked (step_calls i b m).state) (length (step_calls i b m).memory) ≡ Ok tt
     each zero l = first
     each (suc i) l = h.accepted i (omega arith)
 
@@ -134,7 +133,7 @@ steps_after (suc n) k b m s h g = go (is_running (unpacked b).mark) refl
         (steps_of n (suc k) (unpacked (step_call b m).state) (step_call b m).memory))
         → After (suc n) k b m (pick t
         (steps_of n (suc k) (step_outcome (unpacked b) m).desk (commit (step_outcome (unpacked b) m).writes m))
-        (ran Accepted k (unpacked b) m))
+        (ran (Ok tt) k (unpacked b) m))
     go true e next =
         more n k b m _ (accepted (unpacked b) (length m) (g e)) (rw (steps_next b m s h n (suc k)) (next (g e)))
     go false e next = none (suc n) k b m s (λ l. e)
@@ -150,12 +149,12 @@ number_above refusal.Status = omega arith
 number_above refusal.Level = omega arith
 number_above refusal.Stopped = omega arith
 
-step_refused : (b : List ℕ) (m : Memory) (k : Refusal) → step_refusal (unpacked b) (length m) ≡ Refused k
+step_refused : (b : List ℕ) (m : Memory) (k : Refusal) → step_refusal (unpacked b) (length m) ≡ Err k
     → (step_call b m).answer ≡ refused_with (refusal_number k)
 unfolding step_call step_left step_of step_code
 step_refused b m k e = rw e
 
-step_accepted : (b : List ℕ) (m : Memory) → step_refusal (unpacked b) (length m) ≡ Accepted → (k : Refusal)
+step_accepted : (b : List ℕ) (m : Memory) → step_refusal (unpacked b) (length m) ≡ Ok tt → (k : Refusal)
     → (step_call b m).answer ≢ refused_with (refusal_number k)
 unfolding step_call step_left step_of step_code
 step_accepted b m e k = rw e (go (step_outcome (unpacked b) m).event)
@@ -168,7 +167,7 @@ step_accepted b m e k = rw e (go (step_outcome (unpacked b) m).event)
 -- ---- The theorem
 
 module _ (n : ℕ) (b : List ℕ) (m : Memory) (s : State b) where
-  run_accepted : Below 256 m → step_refusal (unpacked b) (length m) ≡ Accepted → RunIsSteps n b m
+  run_accepted : Below 256 m → step_refusal (unpacked b) (length m) ≡ Ok tt → RunIsSteps n b m
   unfolding run_call run_left answer_after
   run_accepted h e =
       let all : run_of n (unpacked b) m ≡ steps_of n 0 (unpacked b) m = (unfold run_of run_unless in rw e) in
@@ -183,10 +182,10 @@ module _ (n : ℕ) (b : List ℕ) (m : Memory) (s : State b) where
         refused = λ q. absurd (q (rw (all, a.answer)));
       }
 
-  run_refused : (k : Refusal) → step_refusal (unpacked b) (length m) ≡ Refused k → RunIsSteps n b m
+  run_refused : (k : Refusal) → step_refusal (unpacked b) (length m) ≡ Err k → RunIsSteps n b m
   unfolding run_call run_left step_calls
   run_refused k e =
-      let all : run_of n (unpacked b) m ≡ ran (Refused k) 0 (unpacked b) m = (unfold run_of run_unless in rw e) in
+      let all : run_of n (unpacked b) m ≡ ran (Err k) 0 (unpacked b) m = (unfold run_of run_unless in rw e) in
       record {
         state = rw all (packed-unpacked b s.size s.bytes.at);
         memory = rw all;
@@ -203,5 +202,5 @@ runs_are_steps n b m l hb hm = go (step_refusal (unpacked b) (length m)) refl
     s = record { size = l; bytes = record { at = hb } }
 
     go : (a : Answer) → step_refusal (unpacked b) (length m) ≡ a → RunIsSteps n b m
-    go Accepted e = run_accepted n b m s (record { at = hm }) e
-    go (Refused k) e = run_refused n b m s k e
+    go (Ok u) e = run_accepted n b m s (record { at = hm }) e
+    go (Err k) e = run_refused n b m s k e

@@ -1,5 +1,6 @@
 -- A step of a desk that has room in its bytes, over a memory of bytes, leaves such a desk and such
 -- a memory.
+use Rattle.std.specs.Prelude.{Ok, Err}
 use Prim.Native.Nat.{ℕ, zero, suc, ◌+◌, ◌*◌, ◌<◌, ◌≤◌}
 use mathlib.Core.Path.{◌≡◌}
 use mathlib.Core.Bool.{Bool, true, false, ◌&&◌}
@@ -13,8 +14,6 @@ use Rattle.machine.specs.declared.Map.{Map}
 use Rattle.machine.specs.declared.Mark.{Mark}
 use Rattle.machine.specs.declared.Mark.TheVariants.{Running, Stopped}
 use Rattle.machine.specs.declared.Desk.{Desk}
-use Rattle.machine.specs.declared.Answer.{Answer}
-use Rattle.machine.specs.declared.Answer.TheVariants.{Accepted, Refused}
 use Rattle.machine.specs.Words.{Memory, bytes_of, bytes_of_words, word_at}
 use Rattle.machine.specs.State.{Registers, user_mode, level_of, flags_of, with_flags, valid_user_status, without_level}
 use Rattle.machine.specs.State.{system_block_of, control_block_bytes, saved_bytes, block_fits, map_fits, registers_from}
@@ -28,7 +27,7 @@ use Rattle.machine.specs.Commands.{halts, resumes, kernel_effect, kernel_command
 use Rattle.machine.specs.Steps.{Outcome, Plan, continues, enters, stop, halt, completed, due, user_written}
 use Rattle.machine.specs.Steps.{of_user_command, interrupted, user_plan, enter_if, concluded, user_step, resume}
 use Rattle.machine.specs.Steps.{kernel_written, of_kernel_command, kernel_step, one_step}
-use Rattle.machine.specs.Calls.{unchanged, unless_refused, step_refusal, step_outcome}
+use Rattle.machine.specs.Calls.{Answer, unchanged, unless_refused, step_refusal, step_outcome}
 use Rattle.machine.proofs.Bytes.{bytes_length, bytes_small}
 use Rattle.machine.proofs.Blocks.{words_length}
 use Rattle.layout.specs.Layout.{state_bytes, runs, mark_number, mark_of, other_words, words_of, packed, unpacked}
@@ -269,8 +268,8 @@ module _ (d : Desk) (h : Room d) where
 
     unless : (a : Answer) (o : Outcome) → HeldOutcome o → HeldOutcome (unless_refused a d o)
     unfolding unless_refused unchanged
-    unless Accepted o g = g
-    unless (Refused k) o g = record { desk = h; writes = tt }
+    unless (Ok u) o g = g
+    unless (Err k) o g = record { desk = h; writes = tt }
 
     pub step_held : HeldOutcome (step_outcome d m)
     unfolding step_outcome

@@ -1,5 +1,6 @@
 -- No call stops a desk with the number whose bytes say that it runs: every stop has a number of the
 -- papers, and these are small.
+use Rattle.std.specs.Prelude.{Ok, Err}
 use Prim.Native.Nat.{ℕ, zero, suc, ◌+◌, ◌≤◌}
 use mathlib.Core.Path.{◌≡◌, refl, ap}
 use mathlib.Core.Bool.{Bool, true, false, ◌&&◌}
@@ -19,8 +20,6 @@ use Rattle.machine.specs.declared.Mark.TheVariants.{Running, Stopped}
 use Rattle.machine.specs.declared.Desk.{Desk}
 use Rattle.machine.specs.declared.Refusal.{Refusal}
 use Rattle.machine.specs.declared.Refusal.TheVariants as refusal
-use Rattle.machine.specs.declared.Answer.{Answer}
-use Rattle.machine.specs.declared.Answer.TheVariants.{Accepted, Refused}
 use Rattle.machine.specs.Words.{pick, Memory, word_at}
 use Rattle.machine.specs.State.{Registers, user_mode, valid_user_status, system_block_of, control_block_bytes, block_fits}
 use Rattle.machine.specs.State.{map_fits, is_running}
@@ -29,7 +28,7 @@ use Rattle.machine.specs.Map.{View, view_of, real_of, RealWrites, located, commi
 use Rattle.machine.specs.Commands.{Done, Completion, done, of_mode, KernelEffect, halts, resumes}
 use Rattle.machine.specs.Steps.{Outcome, Plan, continues, enters, stop, halt, completed, enter_if, concluded, user_step}
 use Rattle.machine.specs.Steps.{resume, kernel_written, of_kernel_command, kernel_step, one_step}
-use Rattle.machine.specs.Calls.{refusal_number, fresh_desk, fresh_reply, fresh_refusal, fresh_of, unchanged, unless_refused}
+use Rattle.machine.specs.Calls.{Answer, refusal_number, fresh_desk, fresh_reply, fresh_refusal, fresh_of, unchanged, unless_refused}
 use Rattle.machine.specs.Calls.{step_refusal, step_outcome, request_refusal, request_outcome, Ran, ran, steps_of}
 use Rattle.machine.specs.Calls.{run_unless, run_of}
 use Rattle.layout.specs.Layout.{runs, mark_number, mark_of, unpacked}
@@ -114,8 +113,8 @@ module _ (d : Desk) (represented : Representable d.mark) where
 
   unless : (a : Answer) (o : Outcome) → Leaves o → Leaves (unless_refused a d o)
   unfolding unless_refused unchanged
-  unless Accepted o h = h
-  unless (Refused k) o h = represented
+  unless (Ok u) o h = h
+  unless (Err k) o h = represented
 
   -- a step
   pub step_represented : (m : Memory) → Leaves (step_outcome d m)
@@ -132,7 +131,7 @@ steps_represented : (n k : ℕ) (d : Desk) (m : Memory) → Representable d.mark
 unfolding steps_of
 steps_represented zero k d m represented = represented
 steps_represented (suc n) k d m represented =
-    picked (λ (r : Ran). Representable r.reply.desk.mark) (is_running d.mark) _ (ran Accepted k d m)
+    picked (λ (r : Ran). Representable r.reply.desk.mark) (is_running d.mark) _ (ran (Ok tt) k d m)
     (steps_represented n (suc k) (step_outcome d m).desk (commit (step_outcome d m).writes m)
     (step_represented d represented m)) represented
 
@@ -143,8 +142,8 @@ unfolding run_of run_unless
 run_represented n d m represented = go (step_refusal d (length m))
   where
     go : (a : Answer) → Representable (run_unless a d m (steps_of n 0 d m)).reply.desk.mark
-    go Accepted = steps_represented n 0 d m represented
-    go (Refused k) = represented
+    go (Ok u) = steps_represented n 0 d m represented
+    go (Err k) = represented
 
 -- a fresh desk
 pub fresh_represented : (n : ℕ) (system control : RealAddress) (start : VirtualAddress)
@@ -153,8 +152,8 @@ unfolding fresh_of fresh_reply
 fresh_represented n system control start = go (fresh_refusal n system control)
   where
     go : (a : Answer) → Representable (fresh_reply a (fresh_desk system control start)).desk.mark
-    go Accepted = running
-    go (Refused k) = stops (refusal_number k) (small_number k)
+    go (Ok u) = running
+    go (Err k) = stops (refusal_number k) (small_number k)
 
 -- the state that some bytes hold
 pub unpacked_represented : (b : List ℕ) → Representable (unpacked b).mark

@@ -1,16 +1,13 @@
 -- The calls on numbers and bytes: unpack the state, make the call of `machine`, pack what it leaves.
 -- A run with breakpoints is the call of `breakpoints`, a load that of `load`, of two lists that of `joint`.
-use Rattle.std.specs.Prelude.{ℕ, ◌+◌, ◌*◌, List}
-use Rattle.machine.specs.declared.StepAnswer.{StepAnswer}
-use Rattle.machine.specs.declared.StepAnswer.TheVariants as step_answer
+use Rattle.std.specs.Prelude.{ℕ, ◌+◌, ◌*◌, List, Some, None, Ok, Err}
+use Rattle.machine.specs.declared.StepEvent.TheVariants as step_event
 use Rattle.machine.specs.declared.Reply.{Reply}
 use Rattle.machine.specs.Words.{Memory}
-use Rattle.machine.specs.Calls.{answer_number, fresh_of, step_answer_number, Stepped, step_of, request_of, Ran, run_of}
+use Rattle.machine.specs.Calls.{StepAnswer, answer_number, fresh_of, step_answer_number, Stepped, step_of, request_of, Ran, run_of}
 use Rattle.layout.specs.Layout.{packed, unpacked}
 use Rattle.breakpoints.specs.declared.Breakpoint.{Breakpoint}
-use Rattle.breakpoints.specs.declared.RunToAnswer.{RunToAnswer}
-use Rattle.breakpoints.specs.declared.RunToAnswer.TheVariants.{Refused, Ended, Held}
-use Rattle.breakpoints.specs.RunTo.{run_to_answer_number, RanTo, run_to_of}
+use Rattle.breakpoints.specs.RunTo.{RunToAnswer, run_to_answer_number, RanTo, run_to_of}
 use Rattle.lists.specs.Refusals.{desk_pieces, load_answer_number}
 use Rattle.load.specs.Loading.{Loaded, load_of}
 use Rattle.joint.specs.Joint.{joint_answer_number, LoadedBoth, joint_of}
@@ -40,10 +37,10 @@ kind_times k = k * 0x1_0000_0000
 
 -- which case the answer is
 abbrev pub step_kind : StepAnswer → ℕ
-step_kind step_answer.Done = 0
-step_kind (step_answer.Refused k) = 1
-step_kind (step_answer.Entered i) = 2
-step_kind (step_answer.Stopped n) = 3
+step_kind (Ok step_event.Done) = 0
+step_kind (Err k) = 1
+step_kind (Ok (step_event.Entered i)) = 2
+step_kind (Ok (step_event.Stopped n)) = 3
 
 unfoldable pub step_code : StepAnswer → ℕ
 step_code a = kind_times (step_kind a) + step_answer_number a
@@ -86,9 +83,9 @@ run_call n state m = run_left (run_of n (unpacked state) m)
 
 -- which case the answer is; 2 and 3 are kinds of a step
 abbrev pub run_to_kind : RunToAnswer → ℕ
-run_to_kind Ended = 0
-run_to_kind (Refused k) = 1
-run_to_kind (Held place) = 4
+run_to_kind (Ok None) = 0
+run_to_kind (Err k) = 1
+run_to_kind (Ok (Some place)) = 4
 
 unfoldable pub run_to_code : RunToAnswer → ℕ
 run_to_code a = kind_times (run_to_kind a) + run_to_answer_number a

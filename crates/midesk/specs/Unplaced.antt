@@ -1,16 +1,12 @@
 -- A run with breakpoints on bytes, in two parts: with the armed addresses alone, which leaves R15, and the answer
 -- once the list was searched for it.
-use Rattle.std.specs.Prelude.{ℕ, List, ltb}
+use Rattle.std.specs.Prelude.{ℕ, List, ltb, Option, Some, None, Ok, Err}
 use Rattle.machine.specs.Words.{pick, Memory}
 use Rattle.machine.specs.State.{reg}
-use Rattle.breakpoints.specs.declared.Armed.{Armed}
-use Rattle.breakpoints.specs.declared.Found.{Found}
-use Rattle.breakpoints.specs.declared.Found.TheVariants.{At, Nowhere}
-use Rattle.breakpoints.specs.declared.RunToAnswer.{RunToAnswer}
-use Rattle.breakpoints.specs.declared.RunToAnswer.TheVariants.{Refused, Ended, Held}
+use Rattle.breakpoints.specs.declared.armed.Armed.{Armed}
 use Rattle.breakpoints.specs.Breakpoints.{most}
 use Rattle.breakpoints.specs.Gathered.{run_armed_of}
-use Rattle.breakpoints.specs.RunTo.{RanTo}
+use Rattle.breakpoints.specs.RunTo.{RunToAnswer, RanTo}
 use Rattle.layout.specs.Layout.{packed, unpacked}
 use Rattle.midesk.specs.declared.Unplaced.{Unplaced}
 use Rattle.midesk.specs.Exports.{run_to_code}
@@ -34,11 +30,11 @@ unfoldable pub run_bytes_of : Armed → ℕ → List ℕ → Memory → BytesLef
 run_bytes_of a n state m = bytes_left (run_armed_of a n (unpacked state) m)
 
 -- a place that no list has counts as none
-abbrev pub held_code : Found → ℕ
-held_code Nowhere = run_to_code Ended
-held_code (At place) = pick (ltb place most) (run_to_code (Held place)) (run_to_code Ended)
+abbrev pub held_code : Option ℕ → ℕ
+held_code None = run_to_code (Ok None)
+held_code (Some place) = pick (ltb place most) (run_to_code (Ok (Some place))) (run_to_code (Ok None))
 
-abbrev pub code_by : RunToAnswer → Found → ℕ
-code_by (Refused k) f = run_to_code (Refused k)
-code_by Ended f = run_to_code Ended
-code_by (Held i) f = held_code f
+abbrev pub code_by : RunToAnswer → Option ℕ → ℕ
+code_by (Err k) found = run_to_code (Err k)
+code_by (Ok None) found = run_to_code (Ok None)
+code_by (Ok (Some i)) found = held_code found

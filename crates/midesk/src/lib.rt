@@ -3,14 +3,14 @@
 // every call answers. Beside them the version of the archive. (`midesk_c` exports them.)
 #![tactic(auto)]
 
-ghost use Rattle.std.specs.Prelude.{◌≡◌, length, ◌≤◌};
+ghost use Rattle.std.specs.Prelude.{◌≡◌, length};
 ghost use Rattle.midesk.specs.Exports.{fresh_call, load_both_call, load_call, request_call, run_call, run_to_call, step_call};
 ghost use Rattle.midesk.specs.Exports.{step_code, version};
 ghost use Rattle.midesk.specs.Unplaced.{code_by, held_code, run_bytes_of};
 
-use breakpoints::{Armed, Breakpoint, Found, MOST, RunToAnswer};
+use breakpoints::{Armed, Breakpoint, MOST, RunToRefusal};
 use layout::STATE_BYTES;
-use machine::{RealAddress, StepAnswer, VirtualAddress};
+use machine::{RealAddress, Refusal, StepEvent, VirtualAddress, answer_number};
 
 // A fresh desk over this memory, into state. Answers the number of the refusal, or 0.
 pub fn midesk_fresh(
@@ -29,22 +29,20 @@ pub fn midesk_fresh(
         RealAddress(control),
         VirtualAddress(start),
     );
-    let d = r.desk;
-    *state = layout::pack(d);
-    let a = r.answer;
-    a.number()
+    *state = layout::pack(r.desk);
+    answer_number(r.answer)
 }
 
 // What a step came to: its kind times 2^32, and its number.
-fn step_code(a: StepAnswer) -> u64
-    ensures { result ≡ step_code a }
+fn step_code(answer: Result<StepEvent, Refusal>) -> u64
+    ensures { result ≡ step_code answer }
 {
-    let number = a.number() as u64;
-    match a {
-        StepAnswer::Done => number,
-        StepAnswer::Refused(_) => 0x1_0000_0000 + number,
-        StepAnswer::Entered(_) => 0x2_0000_0000 + number,
-        StepAnswer::Stopped(_) => 0x3_0000_0000 + number,
+    let number = u64::from(machine::step_answer_number(answer));
+    match answer {
+        Ok(StepEvent::Done) => number,
+        Err(_) => 0x1_0000_0000 + number,
+        Ok(StepEvent::Entered(_)) => 0x2_0000_0000 + number,
+        Ok(StepEvent::Stopped(_)) => 0x3_0000_0000 + number,
     }
 }
 
@@ -54,10 +52,8 @@ pub fn midesk_step(mem: &mut [u8], state: &mut [u8; STATE_BYTES]) -> u64
         ≡ step_call state.old mem.old }
 {
     let r = desk::step(layout::unpack(*state), mem);
-    let d = r.desk;
-    *state = layout::pack(d);
-    let a = r.answer;
-    step_code(a)
+    *state = layout::pack(r.desk);
+    step_code(r.answer)
 }
 
 // At most n steps; how many it made goes into steps. Answers the number of the refusal, or 0.
@@ -67,17 +63,15 @@ pub fn midesk_run(mem: &mut [u8], state: &mut [u8; STATE_BYTES], n: u64, steps: 
         ≡ run_call n state.old mem.old }
 {
     let r = desk::run(layout::unpack(*state), mem, n);
-    let d = r.desk;
-    *state = layout::pack(d);
+    *state = layout::pack(r.desk);
     *steps = r.steps;
-    let a = r.answer;
-    a.number()
+    answer_number(r.answer)
 }
 
 // A run with breakpoints whose place is not yet found: what it came to, and R15 there.
 #[derive(Clone, Copy)]
 pub struct Unplaced {
-    pub answer: RunToAnswer,
+    pub answer: Result<Option<usize>, RunToRefusal>,
     pub r15: u32,
 }
 
@@ -89,44 +83,37 @@ fn run_bytes(
     a: Armed,
     steps: &mut u64,
 ) -> Unplaced
-    requires { a.length ≤ 64 → a.count ≤ 64 }
     ensures { record
         { unplaced = result; steps = steps.new; state = state.new; memory = mem.new }
         ≡ run_bytes_of a n state.old mem.old }
 {
     let ran = armed::run_armed(layout::unpack(*state), mem, n, a);
-    let d = ran.desk;
-    *state = layout::pack(d);
+    *state = layout::pack(ran.desk);
     *steps = ran.steps;
-    let answer = ran.answer;
-    let r15 = breakpoints::r15_after(ran);
-    Unplaced { answer, r15 }
+    Unplaced {
+        answer: ran.answer,
+        r15: breakpoints::r15_after(ran),
+    }
 }
 
 // A hold's kind times 2^32, and its place.
-fn held_code(f: Found) -> u64
-    ensures { result ≡ held_code f }
+fn held_code(found: Option<usize>) -> u64
+    ensures { result ≡ held_code found }
 {
-    match f {
-        Found::At(place) => {
-            if place < MOST {
-                return 0x4_0000_0000 + place as u64;
-            }
-            0
-        }
-        Found::Nowhere => 0,
+    match found {
+        Some(place) if place < MOST => 0x4_0000_0000 + place as u64,
+        _ => 0,
     }
 }
 
 // What a run with breakpoints came to: its kind times 2^32, and its number.
-fn run_to_code(u: Unplaced, f: Found) -> u64
-    ensures { result ≡ code_by u.answer f }
+fn run_to_code(u: Unplaced, found: Option<usize>) -> u64
+    ensures { result ≡ code_by u.answer found }
 {
-    let answer = u.answer;
-    match answer {
-        RunToAnswer::Refused(k) => 0x1_0000_0000 + k.number() as u64,
-        RunToAnswer::Ended => 0,
-        RunToAnswer::Held(_) => held_code(f),
+    match u.answer {
+        Err(refusal) => 0x1_0000_0000 + u64::from(u32::from(refusal)),
+        Ok(None) => 0,
+        Ok(Some(_)) => held_code(found),
     }
 }
 
@@ -145,9 +132,7 @@ pub fn midesk_run_to(
 {
     let a = breakpoints::gather(points);
     let u = run_bytes(mem, state, n, a, steps);
-    let r15 = u.r15;
-    let f = breakpoints::first_armed(points, r15);
-    run_to_code(u, f)
+    run_to_code(u, breakpoints::first_armed(points, u.r15))
 }
 
 // An interrupt level is requested. Answers the number of the refusal, or 0.
@@ -155,10 +140,8 @@ pub fn midesk_request(state: &mut [u8; STATE_BYTES], level: u32) -> u32
     ensures { record { answer = result; state = state.new } ≡ request_call state.old level }
 {
     let r = desk::request(layout::unpack(*state), level);
-    let d = r.desk;
-    *state = layout::pack(d);
-    let a = r.answer;
-    a.number()
+    *state = layout::pack(r.desk);
+    answer_number(r.answer)
 }
 
 // Loads a list into this memory. Answers the number of the refusal, or 0.
@@ -166,8 +149,7 @@ pub fn midesk_load(mem: &mut [u8], list: &[u8]) -> u32
     ensures { record { answer = result; memory = mem.new }
         ≡ load_call mem.old list.now }
 {
-    let a = load::load(mem, list);
-    a.number()
+    answer_number(load::load(mem, list))
 }
 
 // Loads two lists into this memory, with a scratch at least as long as it. Answers the number of the
@@ -176,8 +158,7 @@ pub fn midesk_load_both(mem: &mut [u8], first: &[u8], second: &[u8], scratch: &m
     ensures { record { answer = result; memory = mem.new; scratch = scratch.new }
         ≡ load_both_call mem.old first.now second.now scratch.old }
 {
-    let a = joint::load_both(mem, first, second, scratch);
-    a.number()
+    answer_number(joint::load_both(mem, first, second, scratch))
 }
 
 // The version of the archive: major, minor and patch in a byte each, patch lowest.

@@ -2,101 +2,71 @@
 #![tactic(auto)]
 
 ghost use Rattle.std.specs.Prelude.{◌≡◌, ◌<◌, eqb};
-ghost use Rattle.forms.specs.Answers.{SmallLocation, SmallTarget, location_as};
+ghost use Rattle.forms.specs.Answers.{SmallLocation, SmallPlace, SmallTarget, located_at, location_as};
 ghost use Rattle.fetches.specs.Answers.{FetchedFrom};
 ghost use Rattle.lookup.specs.Answers.{Fits};
-ghost use Rattle.machine.specs.Map.{read_bytes, view_by};
-ghost use Rattle.machine.specs.Operands.{immediate, operand_at, operands_of};
+ghost use Rattle.machine.specs.Map.{view_by};
+ghost use Rattle.machine.specs.Operands.{at, immediate, operand_at, operands_of};
 ghost use Rattle.machine.specs.Words.{length_of, pick};
 ghost use Rattle.operands.specs.Answers.{SmallOperands, SmallTaken, TakesFrom, TakesMemory, TakesRegister};
-ghost use Rattle.operands.specs.Answers.{operands_as, taken_as, taken_from, taken_with, written_by};
-ghost use Rattle.reads.specs.Answers.{got_as};
+ghost use Rattle.operands.specs.Answers.{operands_as, taken_as, taken_from, written_by};
 ghost use Rattle.machine.specs.Code.{read_by};
 ghost use Rattle.rules.specs.Rules.{rules_in};
 
-use fetches::OperandBytes;
+use fetches::Start;
 use forms::Location;
-use machine::{Access, Alarm, Map, RealAddress, Role, Size, Target, VirtualAddress};
-use reads::Got;
+use machine::{Fault, Map, Role, Size, Target, VirtualAddress};
 
-// What one operand gives, or an alarm's argument and the alarm.
+// What one operand gives: a number, and where a result goes.
 #[derive(Clone, Copy)]
-pub enum Taken {
-    Got(u32, Target),
-    Alarm(u32, Alarm),
+pub struct Taken {
+    pub number: u32,
+    pub target: Target,
 }
 
 // What all operands give: the first's and the second's number, and where the last one's result
-// goes; or an alarm's argument and the alarm.
+// goes.
 #[derive(Clone, Copy)]
-pub enum Operands {
-    Ready(u32, u32, Target),
-    Alarm(u32, Alarm),
+pub struct Operands {
+    pub first: u32,
+    pub second: u32,
+    pub target: Target,
 }
 
-// The operand whose six bytes begin at R15, of the command whose byte was fetched from start and
-// lies at found.
+// The operand whose six bytes begin at R15, of the command that starts there.
 fn operand(
     mem: &[u8],
     regs: &mut [u32; 16],
     status: u32,
     map: Map,
-    start: VirtualAddress,
-    found: RealAddress,
+    start: Start,
     size: Size,
     place: u32,
-) -> Location
-    requires { Fits map mem.now × FetchedFrom (view_by status map mem.now) mem.now start found }
+) -> Result<Location, Fault>
+    requires { Fits map mem.now × FetchedFrom (view_by status map mem.now) mem.now start }
     ensures location { location_as result regs.new
         ≡ operand_at (view_by status map mem.now) place (length_of size) regs.old }
     ensures small { SmallLocation result }
 {
     let pc = regs[15];
-    let f = fetches::fields(mem, status, map, VirtualAddress(pc), start, found);
-    match f {
-        OperandBytes::Fields(form, pair, z) => {
-            regs[15] = words::plus(pc, 6);
-            forms::by_form(
-                mem,
-                regs,
-                status,
-                map,
-                size,
-                place,
-                form,
-                pair / 16,
-                pair % 16,
-                z,
-            )
-        }
-        OperandBytes::Alarm(a, n) => Location::Alarm(a, n),
-    }
+    let fields = fetches::operand_fields(mem, status, map, VirtualAddress(pc), start)?;
+    regs[15] = words::plus(pc, 6);
+    forms::by_form(mem, regs, status, map, size.length(), place, fields)
 }
 
 // ---- What a role takes
 
-// What is taken from the value of an operand, with a target.
-fn with_value(v: Got, t: Target) -> Taken
-    requires { SmallTarget t }
-    ensures value { taken_as result ≡ taken_with (got_as v) t }
-    ensures small { SmallTaken result }
-{
-    match v {
-        Got::Value(n) => Taken::Got(n, t),
-        Got::Alarm(a, n) => Taken::Alarm(a, n),
-    }
-}
-
 // From an immediate value. It is no destination and has no address.
-fn take_immediate(role: Role, place: u32, z: u32) -> Taken
+fn take_immediate(role: Role, place: u32, z: u32) -> Result<Taken, Fault>
     ensures value { TakesFrom result place role (immediate z) }
     ensures small { SmallTaken result }
 {
     match role {
-        Role::Value => Taken::Got(z, Target::Nowhere),
-        Role::Address => Taken::Alarm(place, Alarm::Operand),
-        Role::Destination => Taken::Alarm(place, Alarm::Operand),
-        Role::Update => Taken::Alarm(place, Alarm::Operand),
+        Role::Value => Ok(Taken {
+            number: z,
+            target: Target::Nowhere,
+        }),
+        _ => Err(forms::misplaced(place)),
     }
 }
 
@@ -108,38 +78,24 @@ pub fn number(role: Role, n: u32) -> u32
 }
 
 // From register x, in which the operand's value is n. A register has no address.
-fn take_register(role: Role, place: u32, x: u32, n: u32) -> Taken
+fn take_register(role: Role, place: u32, x: u32, n: u32) -> Result<Taken, Fault>
     requires { x < 16 }
     ensures value { TakesRegister result place role x n }
     ensures small { SmallTaken result }
 {
-    let v = number(role, n);
     if rules::writes(role) {
-        return Taken::Got(v, Target::Register(x));
+        return Ok(Taken {
+            number: number(role, n),
+            target: Target::Register(x),
+        });
     }
     if rules::reads(role) {
-        return Taken::Got(n, Target::Nowhere);
+        return Ok(Taken {
+            number: n,
+            target: Target::Nowhere,
+        });
     }
-    Taken::Alarm(place, Alarm::Operand)
-}
-
-// The value of a size at an address. Words are read in place, since they are most frequent.
-fn read(mem: &[u8], status: u32, map: Map, a: VirtualAddress, size: Size) -> Got
-    requires { Fits map mem.now }
-    ensures { got_as result ≡ read_bytes (view_by status map mem.now) Access.Read (length_of size) a }
-{
-    match size {
-        Size::W => reads::read_word(mem, status, map, a),
-        _ => {
-            // The slice and the answer of this call alone go through memory.
-            let all = mem;
-            let w = reads::read(all, status, map, a, size);
-            match w {
-                Got::Value(v) => Got::Value(v),
-                Got::Alarm(x, n) => Got::Alarm(x, n),
-            }
-        }
-    }
+    Err(forms::misplaced(place))
 }
 
 // Where a result for an operand in memory goes.
@@ -147,16 +103,14 @@ fn written(role: Role, a: VirtualAddress) -> Target
     ensures value { result ≡ written_by role a }
     ensures small { SmallTarget result }
 {
-    match role {
-        Role::Value => Target::Nowhere,
-        Role::Address => Target::Nowhere,
-        Role::Destination => Target::Memory(a),
-        Role::Update => Target::Memory(a),
+    if rules::writes(role) {
+        Target::Memory(a)
+    } else {
+        Target::Nowhere
     }
 }
 
-// From memory. The only call of `read` is here, so that it becomes part of the loop over the
-// operands.
+// From memory.
 fn take_memory(
     mem: &[u8],
     status: u32,
@@ -164,20 +118,20 @@ fn take_memory(
     size: Size,
     role: Role,
     a: VirtualAddress,
-) -> Taken
+) -> Result<Taken, Fault>
     requires { Fits map mem.now }
     ensures value { TakesMemory result (view_by status map mem.now) (length_of size) role a }
     ensures small { SmallTaken result }
 {
-    let goes = written(role, a);
-    if rules::reads(role) {
-        let v = read(mem, status, map, a, size);
-        return with_value(v, goes);
-    }
-    if rules::addresses(role) {
-        return Taken::Got(a.0, goes);
-    }
-    Taken::Got(0, goes)
+    let target = written(role, a);
+    let number = if rules::reads(role) {
+        reads::read(mem, status, map, a, size)?
+    } else if rules::addresses(role) {
+        a.0
+    } else {
+        0
+    };
+    Ok(Taken { number, target })
 }
 
 // What an operand's role takes from it.
@@ -190,21 +144,19 @@ fn take(
     role: Role,
     place: u32,
     location: Location,
-) -> Taken
-    requires { Fits map mem.now × SmallLocation location }
+) -> Result<Taken, Fault>
+    requires { Fits map mem.now × SmallPlace location }
     ensures value { taken_as result
-        ≡ taken_from (view_by status map mem.now) place (length_of size) role (location_as location regs.now) }
+        ≡ taken_from (view_by status map mem.now) place (length_of size) role (at (located_at location) regs.now) }
     ensures small { SmallTaken result }
 {
     match location {
         Location::Immediate(z) => take_immediate(role, place, z),
         Location::Register(x) => {
-            let i = x as usize;
-            let n = integers::low(size, regs[i]);
+            let n = integers::low(size, regs[x as usize]);
             take_register(role, place, x, n)
         }
         Location::Memory(a) => take_memory(mem, status, map, size, role, a),
-        Location::Alarm(a, n) => Taken::Alarm(a, n),
     }
 }
 
@@ -217,46 +169,37 @@ pub fn chosen(place: u32, own: u32, new: u32, old: u32) -> u32
     if place == own { new } else { old }
 }
 
-// The operands that follow the command byte, from R15 on; the byte was fetched from start and lies
-// at found.
+// The operands that follow the command byte, from R15 on.
 pub fn take_all(
     mem: &[u8],
     regs: &mut [u32; 16],
     status: u32,
     map: Map,
-    start: VirtualAddress,
-    found: RealAddress,
+    start: Start,
     rules: u32,
-) -> Operands
-    requires { Fits map mem.now × FetchedFrom (view_by status map mem.now) mem.now start found
-        × (rules < 65536) }
+) -> Result<Operands, Fault>
+    requires { Fits map mem.now × FetchedFrom (view_by status map mem.now) mem.now start × (rules < 65536) }
     ensures value { operands_as result regs.new
         ≡ operands_of (view_by status map mem.now) (rules_in rules) regs.old }
     ensures small { SmallOperands result }
 {
-    let mut first: u32 = 0;
-    let mut second: u32 = 0;
-    let mut target = Target::Nowhere;
-    let mut place: u32 = 1;
-    let count = rules::count_in(rules);
+    let mut taken = Operands {
+        first: 0,
+        second: 0,
+        target: Target::Nowhere,
+    };
     let mut rest = rules;
-    while place <= count {
+    for place in 1..rules::count_in(rules) + 1 {
         let size = rules::size_in(rest);
         let role = rules::role_in(rest);
-        let location = operand(mem, regs, status, map, start, found, size, place);
-        let t = take(mem, regs, status, map, size, role, place, location);
-        match t {
-            Taken::Got(n, goes) => {
-                first = chosen(place, 1, n, first);
-                second = chosen(place, 2, n, second);
-                target = goes;
-            }
-            Taken::Alarm(a, n) => {
-                return Operands::Alarm(a, n);
-            }
-        }
-        place += 1;
+        let location = operand(mem, regs, status, map, start, size, place)?;
+        let t = take(mem, regs, status, map, size, role, place, location)?;
+        taken = Operands {
+            first: chosen(place, 1, t.number, taken.first),
+            second: chosen(place, 2, t.number, taken.second),
+            target: t.target,
+        };
         rest = rest / 16;
     }
-    Operands::Ready(first, second, target)
+    Ok(taken)
 }

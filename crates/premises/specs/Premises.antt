@@ -1,13 +1,12 @@
 -- The premises of demand 3: two memories that differ can meet them all, and none of them can be
 -- left out. Statements only.
-use Rattle.std.specs.Prelude.{ℕ, ◌+◌, ◌≡◌, ◌≢◌, Bool, true, ◌&&◌, List, [], ◌∷◌, ltb, eqb, length, take, drop}
+use Rattle.std.specs.Prelude.{ℕ, ◌+◌, ◌≡◌, ◌≢◌, Bool, true, ◌&&◌, List, [], ◌∷◌, ltb, eqb, length, take, drop, Ok}
 use Rattle.std.proofs.Math.Option.{some}
 use Rattle.machine.specs.declared.Access.TheVariants.{Fetch, Read}
 use Rattle.machine.specs.declared.Arithmetic.TheVariants.{Add, Div}
 use Rattle.machine.specs.declared.Desk.{Desk}
 use Rattle.machine.specs.declared.Kind.TheVariants.{D}
 use Rattle.machine.specs.declared.VirtualAddress.{VirtualAddress}
-use Rattle.machine.specs.declared.Answer.TheVariants.{Accepted}
 use Rattle.machine.specs.Words.{Memory, bytes_of, word_at, kind_length}
 use Rattle.machine.specs.State.{reg, is_running}
 use Rattle.machine.specs.Alarms.{OrAlarm, got}
@@ -37,7 +36,7 @@ holdable d m =
 
 abbrev pub AllAccepted : List Call → Desk → Memory → Type 0
 AllAccepted [] d m = Unit {0}
-AllAccepted (c ∷ cs) d m = (refusal_of c d m ≡ Accepted) × AllAccepted cs (next_desk c d m) (next_memory c d m)
+AllAccepted (c ∷ cs) d m = (refusal_of c d m ≡ Ok tt) × AllAccepted cs (next_desk c d m) (next_memory c d m)
 
 pub record Usable (cs : List Call) (d : Desk) (m : Memory) : Type 0 where
   pub held : holdable d m ≡ true

@@ -6,7 +6,7 @@ ghost use Rattle.std.specs.Prelude.{◌≡◌, ◌-◌, ◌%◌, ◌<◌, ◌≤
 ghost use Rattle.machine.specs.Words.{pick, length_of, span};
 ghost use Rattle.machine.specs.Integers.{half, natural, negative, multiplied, divided};
 
-use machine::{Result, Size};
+use machine::{IntegerResult, Size};
 
 // The number without its sign. x is of the size.
 fn magnitude(size: Size, x: u32) -> u32
@@ -28,7 +28,7 @@ fn in_range(size: Size, negative: bool, n: u64) -> bool
     if negative { n <= h } else { n < h }
 }
 
-pub fn multiply(size: Size, a: u32, b: u32) -> Result
+pub fn multiply(size: Size, a: u32, b: u32) -> IntegerResult
     ensures value { result ≡ multiplied (length_of size) (natural (length_of size) a) (natural (length_of size) b) }
     ensures small { result.flags < 16 }
 {
@@ -46,13 +46,13 @@ fn with_sign(size: Size, negative: bool, n: u32) -> u32
     ensures { result ≡ pick negative (span (length_of size) - n) n % span (length_of size) }
 {
     if negative {
-        return integers::low(size, std::num::wrapping_sub_u32(0, n));
+        return integers::low(size, 0u32.wrapping_sub(n));
     }
     integers::low(size, n)
 }
 
 // a is not 0 in its last L bytes.
-pub fn divide(size: Size, a: u32, b: u32) -> Result
+pub fn divide(size: Size, a: u32, b: u32) -> IntegerResult
     requires { 0 < natural (length_of size) a }
     ensures value { result ≡ divided (length_of size) (natural (length_of size) a) (natural (length_of size) b) }
     ensures small { result.flags < 16 }

@@ -1,15 +1,15 @@
 -- How a command ends, with the registers and the memory that it leaves, in the terms of `machine`.
-use Rattle.std.specs.Prelude.{ℕ, ◌≡◌}
+use Rattle.std.specs.Prelude.{ℕ, Result, Ok, Err}
 use Rattle.machine.specs.declared.VirtualAddress.{VirtualAddress}
 use Rattle.machine.specs.declared.Alarm.{Alarm}
+use Rattle.machine.specs.declared.Fault.{Fault}
 use Rattle.machine.specs.declared.Map.{Map}
 use Rattle.machine.specs.Words.{Memory}
 use Rattle.machine.specs.State.{Registers, with_flags}
 use Rattle.machine.specs.Alarms.{OrAlarm, got, alarm}
 use Rattle.machine.specs.Map.{View, view_by, RealWrites, located, commit}
 use Rattle.machine.specs.Commands.{Done}
-use Rattle.stores.specs.declared.Stored.{Stored}
-use Rattle.stores.specs.Answers.{StoreEnd, wrote, failed, stored_as}
+use Rattle.stores.specs.Answers.{StoreEnd, wrote, failed}
 use Rattle.results.specs.declared.Out.{Out}
 use Rattle.results.specs.declared.Out.TheVariants as out
 
@@ -24,21 +24,17 @@ pub data End : Type 0 where
   -- an alarm with its argument
   alarmed : Alarm → ℕ → Memory → End
 
-abbrev pub out_as : Out → Registers → Memory → End
-out_as (out.Done s) r m = command_done r s m
-out_as (out.System x) r m = system_called x r m
-out_as out.Halt r m = halted r m
-out_as (out.Resume a) r m = resumed a m
-out_as (out.Alarm x k) r m = alarmed k x m
+abbrev pub out_as : Result Out Fault → Registers → Memory → End
+out_as (Ok (out.Done s)) r m = command_done r s m
+out_as (Ok (out.System x)) r m = system_called x r m
+out_as (Ok out.Halt) r m = halted r m
+out_as (Ok (out.Resume a)) r m = resumed a m
+out_as (Err e) r m = alarmed e.alarm e.argument m
 
 -- a store that ended, with the registers r and the status s for its success
 abbrev pub after_store : StoreEnd → Registers → ℕ → End
 after_store (wrote m) r s = command_done r s m
 after_store (failed k x m) r s = alarmed k x m
-
--- a store's end as a command's, whatever the registers and the memory
-pub record AfterStore (o : Out) (t : Stored) (s : ℕ) : Type 0 where
-  pub same : (r : Registers) (m : Memory) → out_as o r m ≡ after_store (stored_as t m) r s
 
 -- ---- From what a command came to, with status s, memory m and view v
 

@@ -8,22 +8,19 @@ ghost use Rattle.lookup.specs.Answers.{Fits};
 ghost use Rattle.machine.specs.Alarms.{got};
 ghost use Rattle.machine.specs.Commands.{kept_rest, stored};
 ghost use Rattle.machine.specs.State.{with_flags};
-ghost use Rattle.machine.specs.Words.{bytes_of, length_of};
-ghost use Rattle.results.specs.Ends.{AfterStore, end_in, out_as};
-ghost use Rattle.stores.specs.Answers.{stored_as, stored_in};
+ghost use Rattle.machine.specs.Words.{length_of};
+ghost use Rattle.results.specs.Ends.{end_in, out_as};
 
-use machine::{Alarm, Map, Result, Size, Target, VirtualAddress};
-use stores::Stored;
+use machine::{Fault, IntegerResult, Map, Size, Target, VirtualAddress};
 
 // How a command ended: with a new status; a system call with its argument; stopped; a control
-// block's address to resume from; an alarm's argument and the alarm.
+// block's address to resume from.
 #[derive(Clone, Copy)]
 pub enum Out {
     Done(u32),
     System(u32),
     Halt,
     Resume(VirtualAddress),
-    Alarm(u32, Alarm),
 }
 
 pub fn with_flags(status: u32, f: u32) -> u32
@@ -43,28 +40,6 @@ pub fn kept_rest(size: Size, old: u32, x: u32) -> u32
     }
 }
 
-// A store that ended, with a status for its success.
-pub fn ended(done: Stored, status: u32) -> Out
-    ensures { AfterStore result done status }
-{
-    match done {
-        Stored::Done => Out::Done(status),
-        Stored::Alarm(a, n) => Out::Alarm(a, n),
-    }
-}
-
-// A value of a size to an address. Words are stored in place, since they are most frequent.
-fn store(mem: &mut [u8], status: u32, map: Map, a: VirtualAddress, size: Size, value: u32) -> Stored
-    requires { Fits map mem.old }
-    ensures { stored_as result mem.new
-        ≡ stored_in status map mem.old a (bytes_of (length_of size) value) }
-{
-    match size {
-        Size::W => stores::store_word(mem, status, map, a, value),
-        _ => stores::store(mem, status, map, a, size, value),
-    }
-}
-
 // A result to its target.
 pub fn put(
     mem: &mut [u8],
@@ -72,24 +47,20 @@ pub fn put(
     status: u32,
     map: Map,
     size: Size,
-    x: Result,
+    x: IntegerResult,
     target: Target,
-) -> Out
+) -> Result<Out, Fault>
     requires { Fits map mem.old × SmallTarget target }
     ensures { out_as result regs.new mem.new
         ≡ end_in status map mem.old (λ v. got (stored (length_of size) x target regs.old)) }
 {
-    let s = with_flags(status, x.flags);
     match target {
-        Target::Nowhere => Out::Done(s),
+        Target::Nowhere => {}
         Target::Register(i) => {
             let k = i as usize;
             regs[k] = kept_rest(size, regs[k], x.value);
-            Out::Done(s)
         }
-        Target::Memory(a) => {
-            let done = store(mem, status, map, a, size, x.value);
-            ended(done, s)
-        }
+        Target::Memory(a) => stores::store(mem, status, map, a, size, x.value)?,
     }
+    Ok(Out::Done(with_flags(status, x.flags)))
 }

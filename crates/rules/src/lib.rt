@@ -87,8 +87,7 @@ pub fn count_in(rules: u32) -> u32
 pub fn size_in(rules: u32) -> Size
     ensures { result ≡ size_in rules }
 {
-    let k = rules % 4;
-    match k {
+    match rules % 4 {
         0 => Size::W,
         1 => Size::B,
         2 => Size::H,
@@ -100,8 +99,7 @@ pub fn size_in(rules: u32) -> Size
 pub fn kind_in(rules: u32) -> Kind
     ensures { result ≡ kind_in rules }
 {
-    let k = rules % 4;
-    match k {
+    match rules % 4 {
         2 => Kind::D,
         _ => Kind::F,
     }
@@ -111,8 +109,7 @@ pub fn kind_in(rules: u32) -> Kind
 pub fn role_in(rules: u32) -> Role
     ensures { result ≡ role_in rules }
 {
-    let k = rules / 4 % 4;
-    match k {
+    match rules / 4 % 4 {
         0 => Role::Value,
         1 => Role::Address,
         2 => Role::Destination,
@@ -124,36 +121,21 @@ pub fn role_in(rules: u32) -> Role
 pub fn addresses(role: Role) -> bool
     ensures { result ≡ addressed_by role }
 {
-    match role {
-        Role::Value => false,
-        Role::Address => true,
-        Role::Destination => false,
-        Role::Update => false,
-    }
+    matches!(role, Role::Address)
 }
 
 // Whether a role takes its operand's value.
 pub fn reads(role: Role) -> bool
     ensures { result ≡ read_by role }
 {
-    match role {
-        Role::Value => true,
-        Role::Address => false,
-        Role::Destination => false,
-        Role::Update => true,
-    }
+    matches!(role, Role::Value | Role::Update)
 }
 
 // Whether a command's result goes to an operand of the role.
 pub fn writes(role: Role) -> bool
     ensures { result ≡ written_to role }
 {
-    match role {
-        Role::Value => false,
-        Role::Address => false,
-        Role::Destination => true,
-        Role::Update => true,
-    }
+    matches!(role, Role::Destination | Role::Update)
 }
 
 // 13: HALT or RESUME in user mode, or a system call in kernel mode.

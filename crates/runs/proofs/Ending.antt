@@ -1,10 +1,12 @@
 -- A command's end is the step, where no interrupt is due; else the step enters the level that is.
+use Rattle.std.specs.Prelude.{Result, Ok, Err}
 use Prim.Native.Nat.{ℕ, zero, suc, ◌+◌, ◌/◌, ◌<◌}
 use mathlib.Core.Path.{◌≡◌, refl, sym, ap, ◌∙◌}
 use mathlib.Core.Bool.{Bool, true, false}
 use native.Mathlib.Decide.{dec_lt}
 use native.Mathlib.Omega.{arith}
 use borrow.Author.Tests.{lt-ltb, le-ltb}
+use Rattle.machine.specs.declared.Fault.{Fault}
 use Rattle.machine.specs.declared.Map.{Map}
 use Rattle.machine.specs.declared.Desk.{Desk}
 use Rattle.machine.specs.Words.{pick, Memory}
@@ -147,13 +149,13 @@ exec_resumes s map r m = go (user_mode s) refl
     go true k = user (user_command v r (flags_of s))
     go false k = kernel k (kernel_command v r (flags_of s))
 
-pub resumes_in_kernel_mode : (s : ℕ) (map : Map) (r : Registers) (m : Memory) (o : Out) (w : Registers) (y : Memory)
-    → out_as o w y ≡ exec_of s map r m → ResumesInKernelMode s o
+pub resumes_in_kernel_mode : (s : ℕ) (map : Map) (r : Registers) (m : Memory) (o : Result Out Fault) (w : Registers)
+    (y : Memory) → out_as o w y ≡ exec_of s map r m → ResumesInKernelMode s o
 resumes_in_kernel_mode s map r m o w y e = go o (rw e (exec_resumes s map r m))
   where
-    go : (o : Out) → Resumes s (out_as o w y) → ResumesInKernelMode s o
-    go (out.Done t) h = tt
-    go (out.System x) h = tt
-    go out.Halt h = tt
-    go (out.Resume a) h = h
-    go (out.Alarm x n) h = tt
+    go : (o : Result Out Fault) → Resumes s (out_as o w y) → ResumesInKernelMode s o
+    go (Ok (out.Done t)) h = tt
+    go (Ok (out.System x)) h = tt
+    go (Ok out.Halt) h = tt
+    go (Ok (out.Resume a)) h = h
+    go (Err f) h = tt

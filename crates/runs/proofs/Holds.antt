@@ -1,4 +1,5 @@
 -- A hold before a step, by the interrupt that is due and the watched addresses.
+use Rattle.std.specs.Prelude.{Option, Some, None}
 use Prim.Native.Nat.{ℕ, zero, suc, ◌<◌}
 use mathlib.Core.Path.{◌≡◌, refl}
 use mathlib.Core.Bool.{Bool, true, false, ◌&&◌}
@@ -11,8 +12,6 @@ use Rattle.machine.specs.Words.{pick}
 use Rattle.machine.specs.State.{reg, user_mode, level_of}
 use Rattle.machine.specs.Steps.{due}
 use Rattle.watch.specs.Addresses.{among}
-use Rattle.breakpoints.specs.declared.Found.{Found}
-use Rattle.breakpoints.specs.declared.Found.TheVariants.{At, Nowhere}
 use Rattle.breakpoints.specs.Gathered.{among_at}
 use Rattle.breakpoints.specs.RunTo.{interrupt_due, hold_of}
 use Rattle.breakpoints.proofs.Steps.{unheld-at}
@@ -46,15 +45,15 @@ module _ (d : Desk) where
 -- ---- Whether a run is held
 
 module _ (addresses : List ℕ) (d : Desk) where
-  abbrev at : ℕ → Found
+  abbrev at : ℕ → Option ℕ
   at = among_at addresses
 
-  pub due_first : (k : ℕ) → 0 < interrupt_of d.status d.pending → hold_of at k d ≡ Nowhere
+  pub due_first : (k : ℕ) → 0 < interrupt_of d.status d.pending → hold_of at k d ≡ None
   unfolding hold_of
   due_first zero h = refl
   due_first (suc k) h = rw (is_due d h)
 
-  pub elsewhere : (k : ℕ) → among (reg d.registers 15) addresses ≡ false → hold_of at k d ≡ Nowhere
+  pub elsewhere : (k : ℕ) → among (reg d.registers 15) addresses ≡ false → hold_of at k d ≡ None
   elsewhere k e = unheld-at at k d (rw e)
 
   -- as `held_at` tells it
@@ -64,7 +63,7 @@ module _ (addresses : List ℕ) (d : Desk) where
   told_some (suc k) e = omega arith
 
   pub told_held : (k : ℕ) → interrupt_of d.status d.pending ≡ 0
-      → pick (eqb k 0) false (among (reg d.registers 15) addresses) ≡ true → hold_of at k d ≡ At 0
+      → pick (eqb k 0) false (among (reg d.registers 15) addresses) ≡ true → hold_of at k d ≡ Some 0
   unfolding hold_of
   told_held zero none e = absurd (let z : ◌≡◌ {A = ℕ} 0 1 = cc in omega arith)
   told_held (suc k) none e =
@@ -72,7 +71,7 @@ module _ (addresses : List ℕ) (d : Desk) where
       rw (none-due d none, met)
 
   pub told_free : (k : ℕ) → pick (eqb k 0) false (among (reg d.registers 15) addresses) ≡ false
-      → hold_of at k d ≡ Nowhere
+      → hold_of at k d ≡ None
   unfolding hold_of
   told_free zero e = refl
   told_free (suc k) e = elsewhere (suc k) (rw (ne_eqb (suc k) 0 (λ z. omega (arith, z))) at e)

@@ -1,5 +1,6 @@
 -- An accepted desk: what the calls of a step rely on; one step of a run that watched addresses may hold, and commands
 -- in a row.
+use Rattle.std.specs.Prelude.{Some, None, Result, Ok}
 use Prim.Native.Nat.{ℕ, zero, suc, ◌+◌, ◌-◌, ◌≤◌, ◌<◌}
 use mathlib.Core.Path.{◌≡◌, refl, sym, ap, subst, ◌∙◌}
 use mathlib.Core.Bool.{true, false}
@@ -7,21 +8,18 @@ use mathlib.Core.List.{List}
 use native.Mathlib.Nat.{sub-zero}
 use native.Mathlib.Omega.{arith}
 use lib.ListN.{length}
+use Rattle.machine.specs.declared.Fault.{Fault}
 use Rattle.machine.specs.declared.Mark.{Mark}
 use Rattle.machine.specs.declared.Mark.TheVariants.{Running}
 use Rattle.machine.specs.declared.Desk.{Desk}
 use Rattle.machine.specs.declared.StepReply.{StepReply}
-use Rattle.machine.specs.declared.StepAnswer.{StepAnswer}
-use Rattle.machine.specs.declared.StepAnswer.TheVariants as step_answer
-use Rattle.machine.specs.declared.Answer.TheVariants.{Accepted}
+use Rattle.machine.specs.declared.StepEvent.TheVariants as step_event
 use Rattle.machine.specs.Words.{Memory}
 use Rattle.machine.specs.State.{Registers, is_running, without_level, desk_with}
 use Rattle.machine.specs.Map.{commit}
 use Rattle.machine.specs.Steps.{enters, one_step}
-use Rattle.machine.specs.Calls.{Stepped, step_refusal}
+use Rattle.machine.specs.Calls.{StepAnswer, Stepped, step_refusal}
 use Rattle.machine.proofs.Accepted.{Passes, passes, block_inside, length_whole, length_small, runs, step_lasts}
-use Rattle.breakpoints.specs.declared.Found.TheVariants.{At, Nowhere}
-use Rattle.breakpoints.specs.declared.RunToAnswer.TheVariants.{Ended, Held}
 use Rattle.breakpoints.specs.Gathered.{among_at}
 use Rattle.breakpoints.specs.RunTo.{RanTo, ran_to, hold_of, steps_to}
 use Rattle.breakpoints.proofs.Steps.{to_more, to_held, to_stopped, to_done}
@@ -78,7 +76,7 @@ pub record After (addresses : List ℕ) (n c k : ℕ) (goal : RanTo) (d₀ : Des
   pub steps : steps_to (among_at addresses) (n - k) k d m ≡ goal
   pub one : Only k d₀ m₀ a d m
 
-pub start : (addresses : List ℕ) (n : ℕ) (d : Desk) (m : Memory) → step_refusal d (length m) ≡ Accepted
+pub start : (addresses : List ℕ) (n : ℕ) (d : Desk) (m : Memory) → step_refusal d (length m) ≡ Ok tt
     → Midway addresses n 0 (steps_to (among_at addresses) n 0 d m) d m d m
 start addresses n d m e =
     record { same = refl; passes = passes d (length m) e; steps = rw (sub-zero n); none = λ h. refl }
@@ -94,22 +92,22 @@ module _ {addresses : List ℕ} {n c k : ℕ} {goal : RanTo} {d₀ : Desk} {m₀
         none = λ h. absurd (omega (arith, h, t.made));
       }
 
-  pub stopped : is_running d.mark ≡ false → ran_to Ended k d m ≡ goal
+  pub stopped : is_running d.mark ≡ false → ran_to (Ok None) k d m ≡ goal
   stopped e = sym (to_stopped (among_at addresses) (n - k) k d m e) ∙ t.steps
 
 module _ {addresses : List ℕ} {n k : ℕ} {goal : RanTo} {d₀ : Desk} {m₀ : Memory} {d : Desk} {m : Memory}
     (b : Midway addresses n k goal d₀ m₀ d m) where
-  pub finished : n ≤ k → ran_to Ended k d m ≡ goal
+  pub finished : n ≤ k → ran_to (Ok None) k d m ≡ goal
   finished h = sym (to_done (among_at addresses) (n - k) k d m (omega arith)) ∙ b.steps
 
   -- a watched address is reached
-  pub held : k < n → hold_of (among_at addresses) k d ≡ At 0 → ran_to (Held 0) k d m ≡ goal
+  pub held : k < n → hold_of (among_at addresses) k d ≡ Some 0 → ran_to (Ok (Some 0)) k d m ≡ goal
   held left e =
       let more : n - k ≡ suc (n - suc k) = omega arith in
       sym (to_held (among_at addresses) (n - suc k) k d m b.passes.mark 0 e) ∙ rw more at b.steps
 
   -- one step
-  after : (c : ℕ) → c ≤ k → k < n → hold_of (among_at addresses) k d ≡ Nowhere → (r : StepReply) (y : Memory)
+  after : (c : ℕ) → c ≤ k → k < n → hold_of (among_at addresses) k d ≡ None → (r : StepReply) (y : Memory)
       → length y ≡ length m → stepped r y ≡ shown (one_step d m) m
       → After addresses n c (k + 1) goal d₀ m₀ r.answer r.desk y
   after c before left free r y long e =
@@ -151,12 +149,12 @@ pub record Along (addresses : List ℕ) (n c : ℕ) (goal : RanTo) (d₀ : Desk)
   pub few : c + k ≤ n
   pub midway : Midway addresses n (c + k) goal d₀ m₀ (going d q t) y
   pub none : interrupt_of t d.pending ≡ 0
-  pub one : 0 < k → Only (c + k) d₀ m₀ step_answer.Done (going d q t) y
+  pub one : 0 < k → Only (c + k) d₀ m₀ (Ok step_event.Done) (going d q t) y
 
 module _ {addresses : List ℕ} {n c : ℕ} {goal : RanTo} {d₀ : Desk} {m₀ : Memory} {d : Desk} {k : ℕ} {q : Registers}
     {t : ℕ} {y : Memory} (a : Along addresses n c goal d₀ m₀ d k q t y) where
   -- no more commands
-  pub after_quiet : 0 < k → After addresses n c (c + k) goal d₀ m₀ step_answer.Done (going d q t) y
+  pub after_quiet : 0 < k → After addresses n c (c + k) goal d₀ m₀ (Ok step_event.Done) (going d q t) y
   after_quiet some = record {
     made = omega arith;
     few = a.few;
@@ -166,7 +164,7 @@ module _ {addresses : List ℕ} {n c : ℕ} {goal : RanTo} {d₀ : Desk} {m₀ :
     one = a.one some;
   }
 
-  module _ (free : hold_of (among_at addresses) (c + k) (going d q t) ≡ Nowhere) where
+  module _ (free : hold_of (among_at addresses) (c + k) (going d q t) ≡ None) where
     -- one more command and its conclusion
     pub after_command : c + k < n → {e : End} → e ≡ exec_of t d.map q y → (r : StepReply) (z : Memory)
         → length z ≡ length y → stepped r z ≡ concluded_end (going d q t) y e
@@ -180,9 +178,9 @@ module _ {addresses : List ℕ} {n c : ℕ} {goal : RanTo} {d₀ : Desk} {m₀ :
     unfolding concluded_end
     along_one left w u z e =
         let kept : Kept t y (command_done w u z) = rw (← e) at (exec_kept t y d.map q) in
-        let r : StepReply = record { answer = step_answer.Done; desk = going d w u } in
+        let r : StepReply = record { answer = Ok step_event.Done; desk = going d w u } in
         let more : c + k + 1 ≡ c + suc k = omega arith in
-        let next : After addresses n c (c + suc k) goal d₀ m₀ step_answer.Done (going d w u) z =
+        let next : After addresses n c (c + suc k) goal d₀ m₀ (Ok step_event.Done) (going d w u) z =
         rw more at (after_command left e r z kept.1 refl) in
         record {
           few = next.few;
@@ -193,10 +191,10 @@ module _ {addresses : List ℕ} {n c : ℕ} {goal : RanTo} {d₀ : Desk} {m₀ :
 
 module _ {addresses : List ℕ} {n c : ℕ} {goal : RanTo} {d₀ : Desk} {m₀ : Memory} {d : Desk} {m : Memory}
     (b : Midway addresses n c goal d₀ m₀ d m) (none : interrupt_of d.status d.pending ≡ 0)
-    (free : hold_of (among_at addresses) c d ≡ Nowhere) where
+    (free : hold_of (among_at addresses) c d ≡ None) where
   -- the run is not held after k commands that ended so
   abbrev Free : ℕ → End → Type 0
-  Free k (command_done q t y) = hold_of (among_at addresses) (c + k) (going d q t) ≡ Nowhere
+  Free k (command_done q t y) = hold_of (among_at addresses) (c + k) (going d q t) ≡ None
   Free k (system_called x r y) = Unit {0}
   Free k (halted r y) = Unit {0}
   Free k (resumed a y) = Unit {0}
@@ -255,7 +253,7 @@ module _ {addresses : List ℕ} {n c : ℕ} {goal : RanTo} {d₀ : Desk} {m₀ :
       comes_next k (in_row k d.status d.map d.registers m) (free_after k passed)
       (comes k (passed_fewer addresses d.status d.map d.registers m k passed))
 
-  pub along : c < n → (q : Registers) (t k : ℕ) (w : Registers) (y : Memory) (o : Out)
+  pub along : c < n → (q : Registers) (t k : ℕ) (w : Registers) (y : Memory) (o : Result Out Fault)
       → Rowed addresses (n - c) d.status d.map d.registers m q t k w y o
       → Along addresses n c goal d₀ m₀ d k q t y
   along left q t k w y o e =
@@ -267,5 +265,5 @@ module _ {addresses : List ℕ} {n c : ℕ} {goal : RanTo} {d₀ : Desk} {m₀ :
   pub next_free : (q : Registers) (t k : ℕ) (y : Memory)
       → command_done q t y ≡ in_row k d.status d.map d.registers m
       → Passed addresses (k + 1) d.status d.map d.registers m
-      → hold_of (among_at addresses) (c + k) (going d q t) ≡ Nowhere
+      → hold_of (among_at addresses) (c + k) (going d q t) ≡ None
   next_free q t k y e f = subst (Free k) (sym e) (free_after k f)

@@ -11,7 +11,7 @@ ghost use Rattle.watch.specs.Addresses.{among, Covers};
 ghost use Rattle.machine.specs.State.{desk_with};
 ghost use Rattle.machine.specs.Steps.{one_step};
 
-use machine::{Answer, Desk, Mark, StepAnswer};
+use machine::{Desk, Mark, Refusal, StepEvent};
 use results::Out;
 
 // The desk, running, with these registers and this status.
@@ -26,12 +26,12 @@ fn running(d: Desk, registers: [u32; 16], status: u32) -> Desk
 #[derive(Clone, Copy)]
 pub struct Progress {
     pub count: u64,
-    pub last: StepAnswer,
+    pub last: Result<StepEvent, Refusal>,
     pub held: bool,
     pub desk: Desk,
 }
 
-fn made(count: u64, last: StepAnswer, held: bool, desk: Desk) -> Progress
+fn made(count: u64, last: Result<StepEvent, Refusal>, held: bool, desk: Desk) -> Progress
     ensures { result ≡ record { count = count; last = last; held = held; desk = desk } }
 {
     Progress {
@@ -58,7 +58,7 @@ fn held_at(count: u64, r15: u32, watched: &[u32], filter: u64) -> bool
 // addresses pass. Commands that end quietly run one after another; no level can become due between
 // them. All else goes through the whole desk; one step is a run of one.
 pub fn steps(d: Desk, mem: &mut [u8], n: u64, watched: &[u32], filter: u64) -> Progress
-    requires mem_value { step_refusal d (length mem.old) ≡ Answer.Accepted }
+    requires mem_value { step_refusal d (length mem.old) ≡ Ok tt }
     requires covers { Covers filter watched.now }
     requires watched_len { length watched.now % 16 ≡ 0 }
     ensures all { ran_to (held_answer result.held) result.count result.desk mem.new
@@ -66,7 +66,7 @@ pub fn steps(d: Desk, mem: &mut [u8], n: u64, watched: &[u32], filter: u64) -> P
     ensures one { n ≡ 1 → stepped_to result.last result.desk mem.new ≡ shown (one_step d mem.old) mem.old }
 {
     let mut desk = d;
-    let mut last = StepAnswer::Done;
+    let mut last = Ok(StepEvent::Done);
     let mut count: u64 = 0;
     while count < n {
         let level = levels::interrupt(desk.status, desk.pending);
@@ -86,16 +86,13 @@ pub fn steps(d: Desk, mem: &mut [u8], n: u64, watched: &[u32], filter: u64) -> P
             let out = e.out;
             count += e.count;
             desk = running(desk, quiet, e.status);
-            last = StepAnswer::Done;
-            match out {
-                Out::Done(_) => {}
-                _ => {
-                    let work = e.work;
-                    let reply = entry::conclude(desk, mem, work, out);
-                    count += 1;
-                    desk = reply.desk;
-                    last = reply.answer;
-                }
+            last = Ok(StepEvent::Done);
+            if !out.is_ok_and(|end| matches!(end, Out::Done(_))) {
+                let work = e.work;
+                let reply = entry::conclude(desk, mem, work, out);
+                count += 1;
+                desk = reply.desk;
+                last = reply.answer;
             }
         }
         let mark = desk.mark;

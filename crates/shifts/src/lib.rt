@@ -6,7 +6,7 @@ ghost use Rattle.machine.specs.Words.{span};
 ghost use Rattle.machine.specs.Integers.{signed, fits};
 ghost use Rattle.machine.specs.Integers.{shifted_left, shifted_right, shifted, rotated};
 
-use machine::{Result, Size};
+use machine::{IntegerResult, Size};
 
 // n times to the left, a zero bit from the right each time.
 fn left(n: u32, x: u32) -> u32
@@ -35,7 +35,7 @@ fn fits_left(n: u32, b: u32) -> bool
     b <= right(n, 2147483647)
 }
 
-fn shift_left(n: u32, b: u32) -> Result
+fn shift_left(n: u32, b: u32) -> IntegerResult
     ensures value { result ≡ shifted_left n b }
     ensures small { result.flags < 16 }
 {
@@ -43,7 +43,7 @@ fn shift_left(n: u32, b: u32) -> Result
 }
 
 // A negative word is shifted as its complement, since one bits come in.
-fn shift_right(n: u32, b: u32) -> Result
+fn shift_right(n: u32, b: u32) -> IntegerResult
     ensures value { result ≡ shifted_right n b }
     ensures small { result.flags < 16 }
 {
@@ -53,7 +53,7 @@ fn shift_right(n: u32, b: u32) -> Result
     integers::plain(Size::W, right(n, b))
 }
 
-pub fn shift(a: u32, b: u32) -> Result
+pub fn shift(a: u32, b: u32) -> IntegerResult
     ensures value { result ≡ shifted a b }
     ensures small { result.flags < 16 }
 {
@@ -64,7 +64,7 @@ pub fn shift(a: u32, b: u32) -> Result
 }
 
 // The word twice, side by side: shifted left by n, its upper half is the word rotated.
-pub fn rotate(a: u32, b: u32) -> Result
+pub fn rotate(a: u32, b: u32) -> IntegerResult
     ensures value { result ≡ rotated a b }
     ensures small { result.flags < 16 }
 {

@@ -2,7 +2,7 @@
 use Rattle.std.proofs.Common.{◌≡◌, ℕ, List, length}
 use lib.Seq.{sets}
 use Rattle.machine.specs.declared.Access.TheVariants.{Write}
-use Rattle.machine.specs.declared.Alarm.{Alarm}
+use Rattle.machine.specs.declared.Fault.{Fault}
 use Rattle.machine.specs.declared.Map.{Map}
 use Rattle.machine.specs.declared.RealAddress.{RealAddress}
 use Rattle.machine.specs.declared.VirtualAddress.{VirtualAddress}
@@ -18,5 +18,5 @@ module _ {s : ℕ} {map : Map} {m : Memory} {x : VirtualAddress} (bs : List ℕ)
   page_stored f e = rw (adjoin_located bs long f, commit_from, e)
 
   -- the first has an alarm
-  pub page_stopped : {k : Alarm} → Stops s map m x Write n k → failed k x.0 m ≡ stored_in s map m x bs
+  pub page_stopped : {e : Fault} → Stops s map m x Write n e → failed e.alarm e.argument m ≡ stored_in s map m x bs
   page_stopped f = rw (stops_located bs long f)

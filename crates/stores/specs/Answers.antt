@@ -1,21 +1,20 @@
 -- How a store ends, with the memory that it leaves, in the terms of `machine`.
-use Rattle.std.specs.Prelude.{ℕ, List}
+use Rattle.std.specs.Prelude.{ℕ, List, Result, Ok, Err}
 use Rattle.machine.specs.declared.Alarm.{Alarm}
+use Rattle.machine.specs.declared.Fault.{Fault}
 use Rattle.machine.specs.declared.Map.{Map}
 use Rattle.machine.specs.declared.VirtualAddress.{VirtualAddress}
 use Rattle.machine.specs.Words.{Memory}
 use Rattle.machine.specs.Alarms.{OrAlarm, got, alarm}
 use Rattle.machine.specs.Map.{view_by, RealWrites, writes_from, located, commit}
-use Rattle.stores.specs.declared.Stored.{Stored}
-use Rattle.stores.specs.declared.Stored.TheVariants as stored
 
 pub data StoreEnd : Type 0 where
   wrote : Memory → StoreEnd
   failed : Alarm → ℕ → Memory → StoreEnd
 
-abbrev pub stored_as : Stored → Memory → StoreEnd
-stored_as stored.Done m = wrote m
-stored_as (stored.Alarm x k) m = failed k x m
+abbrev pub stored_as : Result (Unit {0}) Fault → Memory → StoreEnd
+stored_as (Ok u) m = wrote m
+stored_as (Err e) m = failed e.alarm e.argument m
 
 abbrev pub store_end_of : Memory → OrAlarm RealWrites → StoreEnd
 store_end_of m (got ws) = wrote (commit ws m)

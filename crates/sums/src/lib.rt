@@ -6,7 +6,7 @@ ghost use Rattle.std.specs.Prelude.{◌≡◌, ◌+◌, ◌%◌, ◌<◌};
 ghost use Rattle.machine.specs.Words.{length_of, span};
 ghost use Rattle.machine.specs.Integers.{half, natural, added, subtracted, compared};
 
-use machine::{Result, Size};
+use machine::{IntegerResult, Size};
 
 // A signed value moved up by half the span, which keeps the order. x is of the size.
 fn biased(size: Size, x: u32) -> u64
@@ -17,13 +17,13 @@ fn biased(size: Size, x: u32) -> u64
     (x as u64) ^ integers::half_of(size)
 }
 
-pub fn add(size: Size, a: u32, b: u32) -> Result
+pub fn add(size: Size, a: u32, b: u32) -> IntegerResult
     ensures value { result ≡ added (length_of size) (natural (length_of size) a) (natural (length_of size) b) }
     ensures small { result.flags < 16 }
 {
     let p = integers::low(size, a);
     let q = integers::low(size, b);
-    let x = integers::low(size, std::num::wrapping_add_u32(q, p));
+    let x = integers::low(size, q.wrapping_add(p));
     let h = integers::half_of(size);
     let m = integers::span_of(size);
     let t = biased(size, q) + biased(size, p);
@@ -31,13 +31,13 @@ pub fn add(size: Size, a: u32, b: u32) -> Result
     integers::result(size, x, !fits, m <= q as u64 + p as u64)
 }
 
-pub fn subtract(size: Size, a: u32, b: u32) -> Result
+pub fn subtract(size: Size, a: u32, b: u32) -> IntegerResult
     ensures value { result ≡ subtracted (length_of size) (natural (length_of size) a) (natural (length_of size) b) }
     ensures small { result.flags < 16 }
 {
     let p = integers::low(size, a);
     let q = integers::low(size, b);
-    let x = integers::low(size, std::num::wrapping_sub_u32(q, p));
+    let x = integers::low(size, q.wrapping_sub(p));
     let h = integers::half_of(size);
     let s = biased(size, p);
     let t = biased(size, q);

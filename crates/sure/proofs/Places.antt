@@ -22,16 +22,16 @@ use Rattle.machine.specs.Map.{allows_fetch, in_number_order, mapped, unmapped, v
 use Rattle.machine.specs.OnePage.{InOnePage}
 use Rattle.machine.proofs.Bytes.{four_byte_value}
 use Rattle.machine.proofs.Views.{order_got}
-use Rattle.lookup.specs.declared.Whole.{Whole}
-use Rattle.lookup.specs.declared.Whole.TheVariants as whole
+use Rattle.std.specs.Prelude.{Option, Some, Result, Ok}
+use Rattle.machine.specs.declared.Fault.{Fault}
 use Rattle.lookup.specs.Answers.{Fits, WholeOf}
 use Rattle.words.proofs.Values.{length_bounds}
 use Rattle.lookup.proofs.Wholes.{Adjoin, adjoin_inside, adjoin_read}
 use Rattle.sure.specs.Answers.{Placed}
 
 -- an answer that names a place
-pub placed : {s : ℕ} {map : Map} {m : Memory} {n : ℕ} {x : VirtualAddress} {w : Access} {a : RealAddress} {q : Whole}
-    → q ≡ whole.At a → WholeOf (view_by s map m) m x n w q → Placed s map m n x w a
+pub placed : {s : ℕ} {map : Map} {m : Memory} {n : ℕ} {x : VirtualAddress} {w : Access} {a : RealAddress} {q : Result (Option RealAddress) Fault}
+    → q ≡ Ok (Some a) → WholeOf (view_by s map m) m x n w q → Placed s map m n x w a
 placed {s} {map} {m} {n} {x} {w} {a} e h =
     let told : InOnePage x n × (view_by s map m x w ≡ got (found_at m a)) = rw e at h in
     record { hit = told.1; near = told.0 }

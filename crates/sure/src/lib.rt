@@ -1,20 +1,20 @@
-// Operands that surely give no alarm: words in the forms 0 to 3 whose six bytes lie in the command's
-// page, each in a register, immediate, or in one page that may be used so. All else is unsure, of
-// which nothing is said. Only R15 changes. (`narrow` has the same for bytes and halfwords, `allforms`
-// words in the other forms too.)
+// Operands that surely give no alarm: of one size, in the forms 0 to 3, whose six bytes lie in the
+// command's page, each in a register, immediate, or in one page that may be used so. All else is
+// unsure, of which nothing is said: None. Only R15 changes. (`allforms` has words in the other forms
+// too.)
 #![tactic(auto)]
 
 ghost use Rattle.std.specs.Prelude.{◌≡◌, ◌<◌};
-ghost use Rattle.fetches.specs.Answers.{FetchedFrom};
+ghost use Rattle.fetches.specs.Answers.{FetchedFrom, named};
 ghost use Rattle.lookup.specs.Answers.{Fits};
 ghost use Rattle.machine.specs.Map.{view_by};
 ghost use Rattle.machine.specs.Operands.{memory};
+ghost use Rattle.machine.specs.Words.{length_of};
 ghost use Rattle.rules.specs.Rules.{AllOf, rules_in};
-ghost use Rattle.sure.specs.Answers.{OnlyR15, OperandOf, ReachesAll, ReachesTaken, ReadyOf, SmallSpot};
-ghost use Rattle.sure.specs.Answers.{SpotOf, TakenFrom, TakenOf, access_of};
+ghost use Rattle.sure.specs.Answers.{OnlyR15, OperandOf, ReachesAll, ReachesTaken, ReadyOf, SmallPlace, SmallSpot};
+ghost use Rattle.sure.specs.Answers.{SpotOf, TakenFrom, TakenOf, access_of, with_operand};
 
-use fetches::Nearby;
-use lookup::Whole;
+use fetches::{Fields, Start};
 use machine::{Access, Map, RealAddress, Role, Size, VirtualAddress};
 
 // Where an operand is: its number; a register and what it holds; its address.
@@ -23,7 +23,6 @@ pub enum Spot {
     Number(u32),
     Register(u32, u32),
     Memory(VirtualAddress),
-    Unsure,
 }
 
 // Where a result goes; in memory to an address and the place that was looked up for writing.
@@ -36,53 +35,43 @@ pub enum Goes {
 
 // What one operand gives.
 #[derive(Clone, Copy)]
-pub enum Taken {
-    Got(u32, Goes),
-    Unsure,
+pub struct Taken {
+    pub number: u32,
+    pub goes: Goes,
 }
 
 // What all operands give: the first's and the second's number, and where the last one's result
 // goes.
 #[derive(Clone, Copy)]
-pub enum Operands {
-    Ready(u32, u32, Goes),
-    Unsure,
+pub struct Operands {
+    pub first: u32,
+    pub second: u32,
+    pub goes: Goes,
+}
+
+impl Operands {
+    // Before the first one.
+    pub const NONE: Operands = Operands {
+        first: 0,
+        second: 0,
+        goes: Goes::Nowhere,
+    };
 }
 
 // Where an operand of any size is, over registers with R15 past it; whether a number fits the size is
 // left to its taker.
-pub fn locate(regs: &[u32; 16], form: u32, x: u32, y: u32, z: u32) -> Spot
-    requires { (x < 16) × (y < 16) }
-    ensures spot { SpotOf regs.now (record { form = form; x = x; y = y; z = z }) result }
+#[inline(always)]
+pub fn locate(regs: &[u32; 16], fields: Fields) -> Option<Spot>
+    ensures spot { SpotOf regs.now (named fields) result }
     ensures small { SmallSpot result }
 {
-    let i = x as usize;
+    let Fields { form, x, y, z } = fields;
     match form {
-        0 => {
-            if x == 0 && y == 0 {
-                return Spot::Memory(VirtualAddress(z));
-            }
-            Spot::Unsure
-        }
-        1 => {
-            if x == 0 && y == 0 {
-                return Spot::Number(z);
-            }
-            Spot::Unsure
-        }
-        2 => {
-            if y == 0 && z == 0 {
-                return Spot::Register(x, regs[i]);
-            }
-            Spot::Unsure
-        }
-        3 => {
-            if y == 0 {
-                return Spot::Memory(VirtualAddress(words::plus(z, regs[i])));
-            }
-            Spot::Unsure
-        }
-        _ => Spot::Unsure,
+        0 if x == 0 && y == 0 => Some(Spot::Memory(VirtualAddress(z))),
+        1 if x == 0 && y == 0 => Some(Spot::Number(z)),
+        2 if y == 0 && z == 0 => Some(Spot::Register(x, regs[x as usize])),
+        3 if y == 0 => Some(Spot::Memory(VirtualAddress(words::plus(z, regs[x as usize])))),
+        _ => None,
     }
 }
 
@@ -93,132 +82,139 @@ pub fn locate(regs: &[u32; 16], form: u32, x: u32, y: u32, z: u32) -> Spot
 pub fn access(role: Role) -> Access
     ensures { result ≡ access_of role }
 {
-    match role {
-        Role::Value => Access::Read,
-        Role::Address => Access::Read,
-        Role::Destination => Access::Write,
-        Role::Update => Access::Write,
+    if rules::writes(role) {
+        Access::Write
+    } else {
+        Access::Read
     }
 }
 
-// From a word in memory.
-fn take_memory(mem: &[u8], status: u32, map: Map, role: Role, a: VirtualAddress) -> Taken
+// From memory.
+#[inline(always)]
+fn take_memory(
+    mem: &[u8],
+    status: u32,
+    map: Map,
+    size: Size,
+    role: Role,
+    a: VirtualAddress,
+) -> Option<Taken>
     requires { Fits map mem.now }
-    ensures value { TakenFrom (view_by status map mem.now) 4 role (memory a) result }
-    ensures reaches { ReachesTaken 4 status map mem.now result }
+    ensures value { TakenFrom (view_by status map mem.now) (length_of size) role (memory a) result }
+    ensures reaches { ReachesTaken (length_of size) status map mem.now result }
 {
     if rules::addresses(role) {
-        return Taken::Got(a.0, Goes::Nowhere);
+        return Some(Taken {
+            number: a.0,
+            goes: Goes::Nowhere,
+        });
     }
-    let why = access(role);
-    let s = lookup::look_whole(mem, status, map, a, 4, why);
-    match s {
-        Whole::At(r) => {
-            let at = r.0 as usize;
-            let n = operands::number(role, words::word(mem, at));
-            if rules::writes(role) {
-                return Taken::Got(n, Goes::Memory(a, r));
-            }
-            Taken::Got(n, Goes::Nowhere)
-        }
-        _ => Taken::Unsure,
-    }
+    let found = lookup::look_whole(mem, status, map, a, size.length(), access(role));
+    let Ok(Some(r)) = found else {
+        return None;
+    };
+    let number = operands::number(role, words::value_at(mem, r.0 as usize, size));
+    let goes = if rules::writes(role) {
+        Goes::Memory(a, r)
+    } else {
+        Goes::Nowhere
+    };
+    Some(Taken { number, goes })
 }
 
-fn take(mem: &[u8], status: u32, map: Map, role: Role, s: Spot) -> Taken
-    requires { Fits map mem.now × SmallSpot s }
-    ensures value { TakenOf (view_by status map mem.now) 4 role s result }
-    ensures reaches { ReachesTaken 4 status map mem.now result }
+// A number that fits the size serves as a value alone; a register has no address.
+#[inline(always)]
+pub fn take(mem: &[u8], status: u32, map: Map, size: Size, role: Role, spot: Spot) -> Option<Taken>
+    requires { Fits map mem.now × SmallPlace spot }
+    ensures value { TakenOf (view_by status map mem.now) (length_of size) role spot result }
+    ensures reaches { ReachesTaken (length_of size) status map mem.now result }
 {
-    match s {
+    match spot {
         Spot::Number(z) => match role {
-            Role::Value => Taken::Got(z, Goes::Nowhere),
-            _ => Taken::Unsure,
+            Role::Value if (z as u64) < integers::span_of(size) => Some(Taken {
+                number: z,
+                goes: Goes::Nowhere,
+            }),
+            _ => None,
         },
         Spot::Register(x, n) => {
             if rules::addresses(role) {
-                return Taken::Unsure;
+                return None;
             }
-            let v = operands::number(role, n);
-            if rules::writes(role) {
-                return Taken::Got(v, Goes::Register(x));
-            }
-            Taken::Got(v, Goes::Nowhere)
+            let number = operands::number(role, integers::low(size, n));
+            let goes = if rules::writes(role) {
+                Goes::Register(x)
+            } else {
+                Goes::Nowhere
+            };
+            Some(Taken { number, goes })
         }
-        Spot::Memory(a) => take_memory(mem, status, map, role, a),
-        Spot::Unsure => Taken::Unsure,
+        Spot::Memory(a) => take_memory(mem, status, map, size, role, a),
     }
 }
 
 // ---- All operands, left to right
 
+// The operands so far, with the one at a place.
+#[inline(always)]
+pub fn with(so_far: Operands, place: u32, taken: Taken) -> Operands
+    ensures { result ≡ with_operand so_far place taken }
+{
+    Operands {
+        first: operands::chosen(place, 1, taken.number, so_far.first),
+        second: operands::chosen(place, 2, taken.number, so_far.second),
+        goes: taken.goes,
+    }
+}
+
 // The operand whose six bytes begin at R15; R15 goes past them.
+#[inline(always)]
 fn operand(
     mem: &[u8],
     regs: &mut [u32; 16],
     status: u32,
     map: Map,
-    start: VirtualAddress,
-    found: RealAddress,
+    start: Start,
+    size: Size,
     role: Role,
-) -> Taken
-    requires { Fits map mem.now × FetchedFrom (view_by status map mem.now) mem.now start found }
-    ensures value { OperandOf (view_by status map mem.now) 4 role regs.old regs.new result }
-    ensures reaches { ReachesTaken 4 status map mem.now result }
+) -> Option<Taken>
+    requires { Fits map mem.now × FetchedFrom (view_by status map mem.now) mem.now start }
+    ensures value { OperandOf (view_by status map mem.now) (length_of size) role regs.old regs.new result }
+    ensures reaches { ReachesTaken (length_of size) status map mem.now result }
     ensures only { OnlyR15 regs.old regs.new }
 {
     let pc = regs[15];
-    let f = fetches::near(mem, status, map, VirtualAddress(pc), start, found);
-    match f {
-        Nearby::Elsewhere => Taken::Unsure,
-        Nearby::Fields(form, pair, z) => {
-            regs[15] = words::plus(pc, 6);
-            let s = locate(regs, form, pair / 16, pair % 16, z);
-            take(mem, status, map, role, s)
-        }
-    }
+    let fields = fetches::near(mem, status, map, VirtualAddress(pc), start)?;
+    regs[15] = words::plus(pc, 6);
+    let spot = locate(regs, fields)?;
+    take(mem, status, map, size, role, spot)
 }
 
-// The operands that follow the command byte, all words, from R15 on; the byte was fetched from start
-// and lies at found.
+// The operands that follow the command byte, all of this size, from R15 on. Made part of each caller,
+// so that the size of words is a constant there.
+#[inline(always)]
 pub fn take_all(
     mem: &[u8],
     regs: &mut [u32; 16],
     status: u32,
     map: Map,
-    start: VirtualAddress,
-    found: RealAddress,
+    start: Start,
+    size: Size,
     rules: u32,
-) -> Operands
-    requires fits { Fits map mem.now × FetchedFrom (view_by status map mem.now) mem.now start found
-        × (rules < 65536) }
-    requires all_of { AllOf Size.W (rules_in rules) }
+) -> Option<Operands>
+    requires fits { Fits map mem.now × FetchedFrom (view_by status map mem.now) mem.now start × (rules < 65536) }
+    requires all_of { AllOf size (rules_in rules) }
     ensures value { ReadyOf (view_by status map mem.now) (rules_in rules)
         regs.old regs.new result }
-    ensures reaches { ReachesAll 4 status map mem.now result }
+    ensures reaches { ReachesAll (length_of size) status map mem.now result }
     ensures only { OnlyR15 regs.old regs.new }
 {
-    let mut first: u32 = 0;
-    let mut second: u32 = 0;
-    let mut goes = Goes::Nowhere;
-    let mut place: u32 = 1;
-    let count = rules::count_in(rules);
+    let mut all = Operands::NONE;
     let mut rest = rules;
-    while place <= count {
-        let role = rules::role_in(rest);
-        let t = operand(mem, regs, status, map, start, found, role);
-        match t {
-            Taken::Got(n, g) => {
-                first = operands::chosen(place, 1, n, first);
-                second = operands::chosen(place, 2, n, second);
-                goes = g;
-            }
-            Taken::Unsure => {
-                return Operands::Unsure;
-            }
-        }
-        place += 1;
+    for place in 1..rules::count_in(rules) + 1 {
+        let taken = operand(mem, regs, status, map, start, size, rules::role_in(rest))?;
+        all = with(all, place, taken);
         rest = rest / 16;
     }
-    Operands::Ready(first, second, goes)
+    Some(all)
 }

@@ -60,3 +60,14 @@ pub first_again : (xs : List ℕ) (i : ℕ) → 0 < i → i < length xs
     → SameSet (take (i + 1) (set xs i (get_or xs 0 0))) (take i xs)
 first_again xs i some h r15 =
     rw (add-one, take-suc-set xs i (get_or xs 0 0) h, among_append, among_single) (first_known r15 xs i some h)
+
+pub none_among : (r15 : ℕ) (xs : List ℕ) → length xs ≡ 0 → among r15 xs ≡ false
+unfolding among
+none_among r15 [] e = refl
+none_among r15 (x ∷ xs) e = absurd (omega arith)
+
+-- what is known of some addresses, and of those that follow them
+pub known_on : (r15 : ℕ) (before : Bool) (xs ys : List ℕ)
+    → ((before || among r15 xs) || among r15 ys) ≡ (before || among r15 (xs ++ ys))
+known_on r15 true xs ys = refl
+known_on r15 false xs ys = rw (among_append r15 xs ys)

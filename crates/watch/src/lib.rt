@@ -26,11 +26,9 @@ fn with_bit(filter: u64, bit: u32) -> u64
 pub fn filter_of(addresses: &[u32]) -> u64
     ensures { Covers result addresses.now }
 {
-    let mut filter = 0u64;
-    let mut i = 0usize;
-    while i < addresses.len() {
-        filter = with_bit(filter, addresses[i] % 64);
-        i += 1;
+    let mut filter = 0;
+    for a in addresses {
+        filter = with_bit(filter, *a % 64);
     }
     filter
 }
@@ -46,15 +44,15 @@ fn among_four(addresses: &[u32], i: usize, r15: u32) -> bool
         | (addresses[i + 3] == r15)
 }
 
-// Whether an address is one of the sixteen from place i on.
-fn among_sixteen(addresses: &[u32], i: usize, r15: u32) -> bool
-    requires { i + 16 ≤ length addresses.now }
-    ensures { result ≡ amongOf r15 (take 16 (drop i addresses.now)) }
+// Whether an address is one of these sixteen.
+fn among_sixteen(addresses: &[u32], r15: u32) -> bool
+    requires { length addresses.now ≡ 16 }
+    ensures { result ≡ amongOf r15 addresses.now }
 {
-    among_four(addresses, i, r15)
-        | among_four(addresses, i + 4, r15)
-        | among_four(addresses, i + 8, r15)
-        | among_four(addresses, i + 12, r15)
+    among_four(addresses, 0, r15)
+        | among_four(addresses, 4, r15)
+        | among_four(addresses, 8, r15)
+        | among_four(addresses, 12, r15)
 }
 
 // Whether an address is among these, which are looked at sixteen at a time.
@@ -63,10 +61,8 @@ fn among(addresses: &[u32], r15: u32) -> bool
     ensures { result ≡ amongOf r15 addresses.now }
 {
     let mut found = false;
-    let mut i = 0usize;
-    while i < addresses.len() {
-        found = found | among_sixteen(addresses, i, r15);
-        i += 16;
+    for sixteen in addresses.chunks_exact(16) {
+        found |= among_sixteen(sixteen, r15);
     }
     found
 }
@@ -77,10 +73,7 @@ pub fn met(addresses: &[u32], filter: u64, r15: u32) -> bool
     requires addresses_len { length addresses.now % 16 ≡ 0 }
     ensures { result ≡ amongOf r15 addresses.now }
 {
-    if perhaps(filter, r15) {
-        return among(addresses, r15);
-    }
-    false
+    perhaps(filter, r15) && among(addresses, r15)
 }
 
 // The first `count` addresses, and after them the first one again: the same set, in the whole array.
@@ -89,10 +82,8 @@ pub fn filled(addresses: [u32; 64], count: usize) -> [u32; 64]
     ensures { SameSet result (take count addresses) }
 {
     let mut all = addresses;
-    let mut i = count;
-    while i < 64 {
+    for i in count..64 {
         all[i] = all[0];
-        i += 1;
     }
     all
 }

@@ -11,7 +11,7 @@ use machine::Size;
 pub fn wide(x: u8) -> u32
     ensures { (result ≡ x) × (result < 256) }
 {
-    x as u32
+    u32::from(x)
 }
 
 // ---- Numbers from bytes
@@ -44,11 +44,9 @@ pub fn sixteen(bytes: &[u8], at: usize) -> [u32; 16]
     requires { at + 64 ≤ length bytes.now }
     ensures { result ≡ words_at 16 bytes.now at }
 {
-    let mut words: [u32; 16] = [0; 16];
-    let mut i: usize = 0;
-    while i < 16 {
+    let mut words = [0u32; 16];
+    for i in 0..16 {
         words[i] = word(bytes, at + 4 * i);
-        i += 1;
     }
     words
 }
@@ -82,10 +80,8 @@ pub fn put_words(bytes: &mut [u8], at: usize, words: &[u32])
     requires { at + 4 * length words.now ≤ length bytes.old }
     ensures { bytes.new ≡ sets bytes.old at (bytes_of_words words.now) }
 {
-    let mut i: usize = 0;
-    while i < words.len() {
-        value_to(bytes, at + 4 * i, Size::W, words[i]);
-        i += 1;
+    for (i, word) in words.iter().enumerate() {
+        value_to(bytes, at + 4 * i, Size::W, *word);
     }
 }
 
@@ -94,11 +90,11 @@ pub fn put_words(bytes: &mut [u8], at: usize, words: &[u32])
 pub fn plus(a: u32, b: u32) -> u32
     ensures { result ≡ raised a b }
 {
-    std::num::wrapping_add_u32(a, b)
+    a.wrapping_add(b)
 }
 
 pub fn minus(a: u32, b: u32) -> u32
     ensures { result ≡ lowered a b }
 {
-    std::num::wrapping_sub_u32(a, b)
+    a.wrapping_sub(b)
 }

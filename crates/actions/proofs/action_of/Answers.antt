@@ -6,6 +6,7 @@ use lib.Dec.{T}
 use mathlib.Core.Logic.{◌⊎◌, inl, inr}
 use native.Mathlib.Nat.{zero-mod, mod-eq_of_lt}
 use native.Mathlib.Omega.{arith}
+use Rattle.std.proofs.Common.{Err}
 use Rattle.machine.specs.declared.Size.{Size}
 use Rattle.machine.specs.declared.Alarm.TheVariants.{Command}
 use Rattle.machine.specs.Words.{size_at}
@@ -14,9 +15,7 @@ use Rattle.machine.specs.Code.{Common, result, CMP, table, known_in, known}
 use Rattle.machine.specs.Integers.{natural, operate}
 use Rattle.machine.specs.Commands.{jumps}
 use Rattle.machine.proofs.CommandBytes.{values, same, NoneOf, between, unknown}
-use Rattle.actions.specs.declared.Action.{Action}
-use Rattle.actions.specs.declared.Action.TheVariants.{Alarm}
-use Rattle.actions.specs.Actions.{common_action, action_of}
+use Rattle.actions.specs.Actions.{Asked, common_action, action_of}
 use Rattle.actions.proofs.action_of.Goals as goal
 
 whole : (x : ℕ) → x < 0x1_0000_0000 → natural 4 x ≡ x
@@ -28,12 +27,16 @@ below_or_not zero (suc b) = inl (omega arith)
 below_or_not (suc a) zero = inr (omega arith)
 below_or_not (suc a) (suc b) = elim (below_or_not a b) [ inl h ↦ inl (omega arith) | inr h ↦ inr (omega arith) ]
 
+-- 12, with the byte as argument
+abbrev refused : ℕ → Asked
+refused b = Err (record { alarm = Command; argument = b })
+
 module _ (f x y b : ℕ) (s : Size) (size : s ≡ size_at (b % 4)) where
   -- what a byte asks for, and what a command does
-  abbrev act : ℕ → Action
+  abbrev act : ℕ → Asked
   act n = action_of n f x y
 
-  abbrev does : Common → Action
+  abbrev does : Common → Asked
   does k = common_action k f x y
 
   -- the byte is from lo on, below hi
@@ -57,9 +60,9 @@ module _ (f x y b : ℕ) (s : Size) (size : s ≡ size_at (b % 4)) where
       ]
 
   -- k bytes from lo on are unknown
-  gap : (lo k : ℕ) → values (λ b. Alarm b Command) k lo ≡ values act k lo → (lo ≤ b) × (b < lo + k)
-      → Alarm b Command ≡ act b
-  gap lo k e p = same (λ b. Alarm b Command) act k lo e b p.0 p.1
+  gap : (lo k : ℕ) → values refused k lo ≡ values act k lo → (lo ≤ b) × (b < lo + k)
+      → refused b ≡ act b
+  gap lo k e p = same refused act k lo e b p.0 p.1
 
 -- a byte above all rows is no row alone
 none_above : (b : ℕ) → 0x7B ≤ b → NoneOf table Unit b
@@ -71,7 +74,7 @@ between_above : (b : ℕ) → 0x7B ≤ b → T (between table 0x67 (b + 1))
 unfolding table
 between_above b h = tt
 
-above : (f x y b : ℕ) → 0x7B ≤ b → Alarm b Command ≡ action_of b f x y
+above : (f x y b : ℕ) → 0x7B ≤ b → refused b ≡ action_of b f x y
 unfolding action_of known table
 above f x y b h = rw (unknown 0x67 (b + 1) b (omega arith) (omega arith) table (between_above b h) Unit (none_above b h)).1
 

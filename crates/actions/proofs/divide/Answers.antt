@@ -9,4 +9,4 @@ returns-then-low-eq0 c = simp (← c.low.ensures.value, c.if-low-eq0.true)
 
 pub returns : goal.returns
 unfolding operate
-returns c = simp (c.divide-x.ensures.value, ← c.low.ensures.value, ne_eqb _ _ c.if-low-eq0.false)
+returns c = simp (c.divide.ensures.value, ← c.low.ensures.value, ne_eqb _ _ c.if-low-eq0.false)

@@ -1,20 +1,12 @@
 use native.Mathlib.Omega.{arith}
-use Rattle.sure.proofs.Remaining.{none-taken, one-taken, all_taken}
+use Rattle.sure.proofs.Remaining.{one-taken, all_taken}
 use Rattle.allforms.proofs.take_each.Goals as goal
-
-pub loop-place-init : goal.loop-place-init
-loop-place-init c = none-taken c.count_in-count.ensures c.requires.all_of
 
 pub loop-place-preserved : goal.loop-place-preserved
 loop-place-preserved c =
-    let l = c.loop-place in
-    let got = c.in-Got.is in
-    rw (c.chosen-first.ensures, c.chosen-second.ensures)
-    (one-taken l.invariant c.loop-place-test.true _ c.role_in-role.ensures _ _ _
-    (rw got at c.operand-t.ensures.value) (rw got at c.operand-t.ensures.reaches))
+    rw c.with-all.ensures
+    (one-taken c.loop-place.invariant (omega arith) _ c.role_in.ensures _ c.in_ok-taken.taken
+    c.in_ok-taken.ensures.value c.in_ok-taken.ensures.reaches)
 
-pub returns : goal.returns
-returns c = let w = c.loop-place.invariant in record {
-  value = all_taken w (omega arith);
-  reaches = w.reaches;
-}
+pub returns-clause-value : goal.returns-clause-value
+returns-clause-value c = all_taken c.loop-place.invariant (omega arith)

@@ -1,11 +1,10 @@
--- i breakpoints of the list are gathered.
-use Rattle.std.proofs.Common.{◌-◌, ◌≤◌}
+-- what the loop has passed is gathered
+use Rattle.std.proofs.Common.{◌≡◌, length}
 use Rattle.breakpoints.proofs.Gathering.{SoFar}
-use Rattle.breakpoints.proofs.Looked.{looked}
 use Rattle.breakpoints.proofs.gather.Given as goal
 
-abbrev pub invariant-loop-i : goal.invariant-loop-i
-invariant-loop-i l = (l.i ≤ looked l.points) × SoFar l.points l.i l.a
-
-abbrev pub decreases-loop-i : goal.decreases-loop-i
-decreases-loop-i l = l.n - l.i
+abbrev pub invariant-loop-p : goal.invariant-loop-p
+invariant-loop-p l = record {
+  long : l.a.1.1.0 ≡ length l.points;
+  gathered : SoFar l.points l.p-iterator.n l.p-iterator.iter.rest.now (record { addresses = l.a.0; count = l.a.1.0 });
+}

@@ -1,24 +1,16 @@
 -- The answer is changed only where the run was held.
-use Rattle.std.proofs.Common.{◌≡◌, refl, ℕ}
-use Rattle.breakpoints.specs.declared.Found.{Found}
-use Rattle.breakpoints.specs.declared.RunToAnswer.{RunToAnswer}
-use Rattle.breakpoints.specs.declared.RunToAnswer.TheVariants.{Refused, Ended, Held}
-use Rattle.breakpoints.specs.Gathered.{placed_answer, placed_reply}
+use borrow.Author.Rules.{rules}
+use Rattle.breakpoints.specs.Gathered.{placed_reply}
 use Rattle.breakpoints.proofs.placed.Goals as goal
 
-not_held : (x : RunToAnswer) (f : Found) → ((place : ℕ) → x ≡ Held place → ⊥) → placed_answer x f ≡ x
-not_held (Refused k) f o = refl
-not_held Ended f o = refl
-not_held (Held i) f o = absurd (o i refl)
-
-pub returns-in_default : goal.returns-in_default
+pub returns-in-Ok-Some : goal.returns-in-Ok-Some
 unfolding placed_reply
-returns-in_default c = rw (not_held c.args.r.answer c.args.f c.in_default.not-Held)
+returns-in-Ok-Some c = search rules
 
-pub returns-in-At : goal.returns-in-At
+pub returns-in-Ok-None : goal.returns-in-Ok-None
 unfolding placed_reply
-returns-in-At c = rw (c.in-At.is, c.in-Held.is)
+returns-in-Ok-None c = search rules
 
-pub returns-in-Nowhere : goal.returns-in-Nowhere
+pub returns-in-Err : goal.returns-in-Err
 unfolding placed_reply
-returns-in-Nowhere c = rw (c.in-Nowhere.is, c.in-Held.is)
+returns-in-Err c = search rules

@@ -1,18 +1,16 @@
 -- It tests the breakpoint's switch and the room as its definition does.
-use borrow.Author.Tests.{not-true, not-false, le-leb, lt-leb}
+use borrow.Author.Tests.{le-leb, lt-leb}
 use Rattle.breakpoints.specs.Gathered.{with_one}
 use Rattle.breakpoints.proofs.with_one.Goals as goal
+use Rattle.breakpoints.proofs.with_one.Goals.{then-p+then-a-lt-MOST, else-p, else-p-via-then-p+else-a-lt-MOST, else-p-via-else-p}
 
-pub returns-then-not-p : goal.returns-then-not-p
+pub returns-clause-added : goal.returns-clause-added
 unfolding with_one
-returns-then-not-p c = simp (not-true c.args.p.armed c.if-not-p.true)
-
-pub returns-then-at-ge-MOST : goal.returns-then-at-ge-MOST
-unfolding with_one
-returns-then-at-ge-MOST c =
-    simp (not-false c.args.p.armed c.if-not-p.false, le-leb 64 c.args.a.count c.if-at-ge-MOST.true)
-
-pub returns : goal.returns
-unfolding with_one
-returns c =
-    simp (not-false c.args.p.armed c.if-not-p.false, lt-leb 64 c.args.a.count c.if-at-ge-MOST.false)
+returns-clause-added c =
+    elim c.if-p.branch [
+      | then-p+then-a-lt-MOST w ↦ simp (w.a-is, w.if-p.true, lt-leb 64 c.args.a.count w.if-a-lt-MOST.true)
+      | else-p w ↦ elim w.else-p.branch [
+        | else-p-via-then-p+else-a-lt-MOST w' ↦ simp (w.a-is, w'.if-p.true, le-leb 64 c.args.a.count w'.if-a-lt-MOST.false)
+        | else-p-via-else-p w' ↦ simp (w.a-is, w'.if-p.false)
+      ]
+    ]

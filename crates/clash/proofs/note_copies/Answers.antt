@@ -1,26 +1,17 @@
-use mathlib.Core.Path.{sym, ◌∙◌, ap}
+use mathlib.Core.Path.{sym, ◌∙◌}
 use native.Mathlib.Omega.{arith}
-use lib.ListN.{length, length-replicate, replicate, get_or-replicate}
-use Rattle.clash.proofs.Noting.{noted-length, noted-next, none-noted}
+use lib.ListN.{length-replicate, replicate, get_or-replicate}
+use Rattle.clash.proofs.Noting.{noted-next, none-noted}
 use Rattle.clash.proofs.note_copies.Goals as goal
-
-pub overflow_add-at : goal.overflow_add-at
-overflow_add-at c = omega (arith, c.requires (omega arith))
-
-pub note_byte-requires : goal.note_byte-requires
-note_byte-requires c = omega (arith, c.requires (omega arith))
 
 pub loop-i-preserved : goal.loop-i-preserved
 loop-i-preserved c =
     let turn = c.loop-i in
     let a = c.args in
-    let one = c.note_byte.ensures in
     let next = noted-next a.half a.turn (replicate a.count a.byte) turn.i a.at turn.scratch
-    (rw length-replicate (omega arith)) in (
-      omega arith,
-      ap length one ∙ noted-length _ _ _ _ ∙ turn.invariant.1,
-      rw one (sym (rw (get_or-replicate a.count turn.i a.byte 0 (omega arith)) at next) ∙ turn.invariant.2),
-    )
+    (rw length-replicate (omega arith)) in
+    rw c.note_byte.ensures
+    (sym (rw (get_or-replicate a.count turn.i a.byte 0 (omega arith)) at next) ∙ turn.invariant)
 
 pub returns : goal.returns
 returns c =
@@ -28,4 +19,4 @@ returns c =
     let a = c.args in
     sym (none-noted a.half a.turn (replicate a.count a.byte) end.i a.at end.scratch
     (rw length-replicate (omega arith)))
-    ∙ end.invariant.2
+    ∙ end.invariant

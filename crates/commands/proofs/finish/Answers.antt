@@ -46,7 +46,3 @@ returns-in-Halt c = rw c.in-Halt.is
 pub returns-in-Resume : goal.returns-in-Resume
 unfolding action_end
 returns-in-Resume c = rw c.in-Resume.is
-
-pub returns-in-Alarm : goal.returns-in-Alarm
-unfolding action_end
-returns-in-Alarm c = rw c.in-Alarm.is

@@ -18,10 +18,6 @@ value_to-requires c =
     placed_fewer (length_bounds c.args.size).1 (rw c.in-Found.is at c.requires.1) in
     placed_inside (has_bytes c.args.size) found c.requires.0
 
-pub put-requires : goal.put-requires
-put-requires c =
-    (c.requires.0, rw c.in-Named.is at c.requires.1)
-
 pub returns-in-Found : goal.returns-in-Found
 unfolding stored
 returns-in-Found c =
@@ -33,6 +29,3 @@ returns-in-Found c =
     (written (has_bytes a.size) found c.requires.0
     (stored (length_of a.size) a.x (Memory c.in-Found.field-0) a.regs.now) a.x.value refl
     c.value_to.ensures)
-
-pub returns-in-Named : goal.returns-in-Named
-returns-in-Named c = rw c.in-Named.is c.put.ensures

@@ -1,12 +1,5 @@
--- `take` is right: what words surely give; else nothing has changed, and the operands give what they
--- give from the first one on.
+-- `take` is right: where the words were surely taken, their goal is attained.
 use Rattle.commands.proofs.take.Goals as goal
 
-pub take_all-o-requires : goal.take_all-o-requires
-take_all-o-requires c = c.requires.fits
-
-pub returns-in-Ready : goal.returns-in-Ready
-returns-in-Ready c = let aims = c.goal_of.ensures in record {
-  value = rw aims.same c.in-Ready.ensures.value;
-  attained = aims.attained _ _ _ c.in-Ready.ensures.reaches;
-}
+pub returns-in-Some-clause-attained : goal.returns-in-Some-clause-attained
+returns-in-Some-clause-attained c = c.goal_of.ensures.attained _ _ _ c.in-Some.ensures.reaches

@@ -2,11 +2,10 @@
 use Rattle.machine.specs.Calls.{fresh_reply, fresh_of}
 use Rattle.desk.proofs.fresh.Goals as goal
 
-pub returns-in-Refused : goal.returns-in-Refused
+pub returns-in-Ok : goal.returns-in-Ok
 unfolding fresh_of fresh_reply
-returns-in-Refused c =
-    simp (c.zero.ensures, c.number.ensures, ← c.block_refusal-blocks.ensures, c.in-Refused.is)
+returns-in-Ok c = simp (c.fresh.ensures, ← c.in-Ok.ensures)
 
-pub returns-in-Accepted : goal.returns-in-Accepted
+pub returns-in-Err : goal.returns-in-Err
 unfolding fresh_of fresh_reply
-returns-in-Accepted c = simp (c.fresh.ensures, ← c.block_refusal-blocks.ensures, c.in-Accepted.is)
+returns-in-Err c = simp (c.zero.ensures, c.from.ensures, ← c.in-Err.ensures)

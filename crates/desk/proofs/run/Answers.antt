@@ -8,10 +8,9 @@ use Rattle.desk.proofs.run.Goals as goal
 pub steps-p-requires-clause-covers : goal.steps-p-requires-clause-covers
 steps-p-requires-clause-covers c = zero_covers_nothing
 
-pub returns-in-Refused : goal.returns-in-Refused
-returns-in-Refused c = refused_run c.args.d _ _ _ (sym c.refusal-q.ensures ∙ c.in-Refused.is)
+pub returns-in-Ok : goal.returns-in-Ok
+returns-in-Ok c =
+    unwatched _ c.args.d _ _ _ _ _ c.steps-p.ensures.all ∙ accepted_run c.args.d _ _ (sym c.in-Ok.ensures)
 
-pub returns-in-Accepted : goal.returns-in-Accepted
-returns-in-Accepted c =
-    unwatched _ c.args.d _ _ _ _ _ c.steps-p.ensures.all
-    ∙ accepted_run c.args.d _ _ (sym c.refusal-q.ensures ∙ c.in-Accepted.is)
+pub returns-in-Err : goal.returns-in-Err
+returns-in-Err c = refused_run c.args.d _ _ _ (sym c.in-Err.ensures)

@@ -6,4 +6,4 @@ pub returns : goal.returns
 returns c =
     run_to_is c.gather-a.result c.args.points.now c.gather-a.ensures c.args.n c.args.d c.args.mem.now
     c.run_armed-r.result c.run_armed-r.new.mem c.run_armed-r.ensures c.r15_after-r15.result c.r15_after-r15.ensures
-    c.first_armed-f.result c.first_armed-f.ensures c.placed.result c.placed.ensures
+    c.first_armed-found.result c.first_armed-found.ensures c.placed.result c.placed.ensures

@@ -7,9 +7,8 @@ use Rattle.desk.proofs.step.Goals as goal
 pub steps-p-requires-clause-covers : goal.steps-p-requires-clause-covers
 steps-p-requires-clause-covers c = zero_covers_nothing
 
-pub returns-in-Refused : goal.returns-in-Refused
-returns-in-Refused c = refused_step c.args.d _ _ (sym c.refusal-q.ensures ∙ c.in-Refused.is)
+pub returns-in-Ok : goal.returns-in-Ok
+returns-in-Ok c = c.steps-p.ensures.one refl ∙ accepted_step c.args.d _ (sym c.in-Ok.ensures)
 
-pub returns-in-Accepted : goal.returns-in-Accepted
-returns-in-Accepted c =
-    c.steps-p.ensures.one refl ∙ accepted_step c.args.d _ (sym c.refusal-q.ensures ∙ c.in-Accepted.is)
+pub returns-in-Err : goal.returns-in-Err
+returns-in-Err c = refused_step c.args.d _ _ (sym c.in-Err.ensures)

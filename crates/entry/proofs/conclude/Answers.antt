@@ -1,32 +1,36 @@
 -- `conclude` is right: each way to end is one case of the definition.
--- a command that resumes ran in kernel mode
+use mathlib.Core.Path.{◌≡◌}
 use Rattle.machine.specs.Steps.{halt}
 use Rattle.machine.specs.Map.{commit}
+use Rattle.results.specs.declared.Out.TheVariants as out
 use Rattle.entry.specs.Replies.{concluded_end}
 use Rattle.entry.proofs.Quiet.{resume_quiet}
 use Rattle.entry.proofs.conclude.Goals as goal
 
-pub real-requires : goal.real-requires
-real-requires c =
-    rw c.in-Resume.is at c.requires.1
-
-pub returns-in-Done : goal.returns-in-Done
+pub returns-in-Ok-Done : goal.returns-in-Ok-Done
 unfolding concluded_end
-returns-in-Done c = simp (c.in-Done.is, c.done.ensures)
+returns-in-Ok-Done c =
+    let end : c.in-Ok-Done.field-0 ≡ out.Done c.in-Ok-Done.s = rw c.in-Ok-Done.is at c.in-Ok-Done.field-0-is in
+    simp (c.in-Ok-Done.is, end, c.done.ensures)
 
-pub returns-in-System : goal.returns-in-System
+pub returns-in-Ok-System : goal.returns-in-Ok-System
 unfolding concluded_end
-returns-in-System c = rw c.in-System.is c.enter.ensures
+returns-in-Ok-System c =
+    let end : c.in-Ok-System.field-0 ≡ out.System c.in-Ok-System.x = rw c.in-Ok-System.is at c.in-Ok-System.field-0-is in
+    rw (c.in-Ok-System.is, end) c.enter.ensures
 
-pub returns-in-Halt : goal.returns-in-Halt
+pub returns-in-Ok-Halt : goal.returns-in-Ok-Halt
 unfolding concluded_end halt commit
-returns-in-Halt c = simp (c.in-Halt.is, c.with-desk.ensures)
+returns-in-Ok-Halt c =
+    let end : c.in-Ok-Halt.field-0 ≡ out.Halt = rw c.in-Ok-Halt.is at c.in-Ok-Halt.field-0-is in
+    simp (c.in-Ok-Halt.is, end, c.with-desk.ensures)
 
-pub returns-in-Resume : goal.returns-in-Resume
+pub returns-in-Ok-Resume : goal.returns-in-Ok-Resume
 unfolding concluded_end
-returns-in-Resume c =
-    rw (c.in-Resume.is, resume_quiet, ← c.real.ensures, c.resume.ensures)
+returns-in-Ok-Resume c =
+    let end : c.in-Ok-Resume.field-0 ≡ out.Resume c.in-Ok-Resume.x = rw c.in-Ok-Resume.is at c.in-Ok-Resume.field-0-is in
+    rw (c.in-Ok-Resume.is, end, resume_quiet, ← c.real.ensures, c.resume.ensures)
 
-pub returns-in-Alarm : goal.returns-in-Alarm
+pub returns-in-Err : goal.returns-in-Err
 unfolding concluded_end
-returns-in-Alarm c = rw c.in-Alarm.is c.alarm.ensures
+returns-in-Err c = rw c.in-Err.is c.break_off.ensures

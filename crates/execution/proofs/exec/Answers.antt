@@ -1,107 +1,59 @@
-use Prim.Native.Nat.{ℕ}
-use mathlib.Core.List.{[], ◌∷◌}
-use mathlib.Core.Logic.{inl, inr}
-use types.Run.{OneOf}
-use denote.Enum.Declared.{tag_of}
-use Rattle.machine.specs.declared.Alarm.{Alarm}
-use Rattle.results.specs.contracts.Out as Out
-use Rattle.results.specs.declared.Out.{Out}
-use Rattle.results.specs.declared.Out.TheVariants as out
+-- `exec` is right: each command, by one way or the other, is one more in the row, or the one that ends it.
 use mathlib.Core.Path.{◌≡◌, refl, sym, ◌∙◌}
-use native.Mathlib.Omega.{arith}
-use borrow.Author.Rules.{rules}
 use Rattle.watch.proofs.Filters.{nothing_watched}
-use Rattle.execution.proofs.Rows.{none_yet, none_passed, fits_still, unchanged, one_alarms, one_ends}
-use Rattle.execution.proofs.Rows.{all_quiet, goes_on, pauses}
+use Rattle.results.specs.Ends.{command_done}
+use Rattle.commands.specs.Execution.{exec_of}
+use Rattle.execution.proofs.Rows.{none_yet, none_passed, unchanged, unsure, sure, one_ends, one_alarms, goes_on, pauses}
 use Rattle.execution.proofs.exec.Goals as goal
-
--- what is neither Done nor an alarm is one of the others
-tag_else : (o : Out) → ((x : ℕ) → o ≡ out.Done x → ⊥) → ((x : ℕ) → (a : Alarm) → o ≡ out.Alarm x a → ⊥)
-    → OneOf (1 ∷ 2 ∷ 3 ∷ []) (tag_of Out.the_type o)
-tag_else (out.Done u) d a = absurd (d u refl)
-tag_else (out.System x) d a = inl refl
-tag_else out.Halt d a = inr (inl refl)
-tag_else (out.Resume x) d a = inr (inr refl)
-tag_else (out.Alarm x k) d a = absurd (a x k refl)
+use Rattle.execution.proofs.exec.Goals.{After-unwrap-now, then-is_none+in-Ok+in-Done, else-is_none}
+use Rattle.execution.proofs.exec.Goals.{else-filter-ne0-via-then-filter-ne0+else-met, else-filter-ne0-via-else-filter-ne0}
 
 pub loop-count-init : goal.loop-count-init
-loop-count-init c = (search rules, none_yet _ _ _ _, none_passed _ _ _ _ _)
-
-pub command-q-requires : goal.command-q-requires
-command-q-requires c =
-    (fits_still c.loop-count.invariant.1 c.requires.fits, c.table-table.ensures)
-
-pub returns-then-met : goal.returns-then-met
-returns-then-met c =
-    let done = rw c.in-Done.is at c.command-q.ensures in
-    rw c.paused.ensures
-    (pauses _ c.loop-count.invariant.1 c.loop-count.invariant.2 c.command-q.auto.mem done
-    c.loop-count-test.true (sym c.met.ensures ∙ c.if-met.true))
-
-pub loop-count-preserved-else-met : goal.loop-count-preserved-else-met
-loop-count-preserved-else-met c =
-    let done = rw c.in-Done.is at c.command-q.ensures in
-    let next =
-    goes_on _ c.loop-count.invariant.1 c.loop-count.invariant.2 c.command-q.auto.mem done
-    (sym c.met.ensures ∙ c.if-met.false) in
-    (search rules, next.0, next.1)
-
-pub loop-count-preserved-else-filter-ne0 : goal.loop-count-preserved-else-filter-ne0
-loop-count-preserved-else-filter-ne0 c =
-    let done = rw c.in-Done.is at c.command-q.ensures in
-    let next =
-    goes_on _ c.loop-count.invariant.1 c.loop-count.invariant.2 c.command-q.auto.mem done
-    (nothing_watched _ _ c.requires.covers c.if-filter-ne0.false _) in
-    (search rules, next.0, next.1)
-
-pub command-out-requires : goal.command-out-requires
-command-out-requires c =
-    let general = unchanged c.loop-count.invariant.1 (rw c.in-Unsure.is at c.command-q.ensures) in
-    (fits_still general c.requires.fits, c.table-table.ensures)
-
-pub returns-then-met-2 : goal.returns-then-met-2
-returns-then-met-2 c =
-    let general = unchanged c.loop-count.invariant.1 (rw c.in-Unsure.is at c.command-q.ensures) in
-    let done = rw c.in-Done-out.is at c.command-out.ensures in
-    rw c.paused-then-met-2.ensures
-    (pauses _ general c.loop-count.invariant.2 c.command-out.auto.mem done
-    c.loop-count-test.true (sym c.met-then-filter-ne0-2.ensures ∙ c.if-met-2.true))
-
-pub loop-count-preserved-else-met-2 : goal.loop-count-preserved-else-met-2
-loop-count-preserved-else-met-2 c =
-    let general = unchanged c.loop-count.invariant.1 (rw c.in-Unsure.is at c.command-q.ensures) in
-    let done = rw c.in-Done-out.is at c.command-out.ensures in
-    let next =
-    goes_on _ general c.loop-count.invariant.2 c.command-out.auto.mem done
-    (sym c.met-then-filter-ne0-2.ensures ∙ c.if-met-2.false) in
-    let left = c.loop-count-test.true in
-    (omega (arith, left), next.0, next.1)
-
-pub loop-count-preserved : goal.loop-count-preserved
-loop-count-preserved c =
-    let general = unchanged c.loop-count.invariant.1 (rw c.in-Unsure.is at c.command-q.ensures) in
-    let done = rw c.in-Done-out.is at c.command-out.ensures in
-    let next =
-    goes_on _ general c.loop-count.invariant.2 c.command-out.auto.mem done
-    (nothing_watched _ _ c.requires.covers c.if-filter-ne0-2.false _) in
-    let left = c.loop-count-test.true in
-    (omega (arith, left), next.0, next.1)
-
-pub returns-in-Alarm : goal.returns-in-Alarm
-returns-in-Alarm c =
-    let general = unchanged c.loop-count.invariant.1 (rw c.in-Unsure.is at c.command-q.ensures) in
-    let left = c.loop-count-test.true in
-    (one_alarms general _ c.loop-count.invariant.2 left _ _ _ _ (rw c.in-Alarm.is at c.command-out.ensures), refl)
+loop-count-init c = (none_yet _ _ _ _, none_passed _ _ _ _ _)
 
 pub returns-in_default : goal.returns-in_default
 returns-in_default c =
-    let general = unchanged c.loop-count.invariant.1 (rw c.in-Unsure.is at c.command-q.ensures) in
-    let left = c.loop-count-test.true in
-    one_ends general _ c.loop-count.invariant.2 left _ _ c.command-out.result
-    (tag_else c.command-out.result c.in_default.not-Done c.in_default.not-Alarm) c.command-out.ensures
+    let general = unchanged c.loop-count.invariant.0 (unsure _ _ _ _ _ _ _ c.if-is_none.ensures c.command-quiet.ensures) in
+    rw c.in_default.is
+    (one_alarms general _ c.loop-count.invariant.1 c.loop-count-test.true _ _ c.in_default.field-0 c.in_default.ensures, refl)
 
-pub returns : goal.returns
-returns c =
-    let turn = c.loop-count in
-    let all : turn.count ≡ c.args.n = omega arith in
-    rw c.paused-2.ensures (all_quiet _ turn.invariant.1 all turn.invariant.2)
+pub returns-in_default-end : goal.returns-in_default-end
+returns-in_default-end c =
+    let general = unchanged c.loop-count.invariant.0 (unsure _ _ _ _ _ _ _ c.if-is_none.ensures c.command-quiet.ensures) in
+    one_ends general _ c.loop-count.invariant.1 c.loop-count-test.true _ _ c.in-Ok.end c.in_default-end.not-Done c.in-Ok.ensures
+
+-- the command ended quietly, by one way or the other
+one_done : (c : After-unwrap-now)
+    → command_done c.if-is_none.regs c.unwrap-now.result c.if-is_none.mem
+    ≡ exec_of c.loop-count.now c.args.map c.loop-count.regs c.loop-count.mem
+one_done c =
+    elim c.if-is_none.branch [
+      | then-is_none+in-Ok+in-Done w ↦
+          let same : w.in-Done.s ≡ c.unwrap-now.result = cc in
+          let general = unsure _ _ _ _ _ _ _ w.if-is_none.ensures c.command-quiet.ensures in
+          rw (w.regs-is, w.mem-is, ← same, ← general.0, ← general.1) (rw w.in-Done.is at w.in-Ok.ensures)
+      | else-is_none w ↦
+          rw (w.regs-is, w.mem-is) (sure _ _ _ _ _ _ _ (sym w.quiet-is ∙ c.unwrap-now.ensures) c.command-quiet.ensures)
+    ]
+
+pub returns-then-met : goal.returns-then-met
+returns-then-met c =
+    let step = one_done (goal.at.returns-then-met c).After-unwrap-now in
+    rw c.paused.ensures
+    (pauses _ c.loop-count.invariant.0 c.loop-count.invariant.1 (c.if-is_none.auto.mem ∙ c.command-quiet.auto.mem) step
+    c.loop-count-test.true (sym c.met.ensures ∙ c.if-met.true))
+
+pub loop-count-preserved : goal.loop-count-preserved
+loop-count-preserved c =
+    let step = one_done (goal.at.loop-count-preserved c).After-unwrap-now in
+    elim c.else-filter-ne0.branch [
+      | else-filter-ne0-via-then-filter-ne0+else-met w ↦
+          let next = goes_on _ c.loop-count.invariant.0 c.loop-count.invariant.1
+          (c.if-is_none.auto.mem ∙ c.command-quiet.auto.mem) step (sym w.met.ensures ∙ w.if-met.false) in
+          (next.0, next.1)
+      | else-filter-ne0-via-else-filter-ne0 w ↦
+          let next = goes_on _ c.loop-count.invariant.0 c.loop-count.invariant.1
+          (c.if-is_none.auto.mem ∙ c.command-quiet.auto.mem) step
+          (nothing_watched _ _ c.requires.covers w.if-filter-ne0.false _) in
+          (next.0, next.1)
+    ]

@@ -1,14 +1,11 @@
 -- `exec` is right: the invariant: the commands that were counted, in a row from the first
 -- registers, status and memory on, ended quietly with the present ones, and after none of them the
 -- next was at a watched address.
-use Prim.Native.Nat.{◌+◌, ◌-◌, ◌≤◌}
+use Prim.Native.Nat.{◌+◌}
 use Rattle.execution.specs.Rows.{Passed}
 use Rattle.execution.proofs.Rows.{Quiet}
 use Rattle.execution.proofs.exec.Given as goal
 
 abbrev pub invariant-loop-count : goal.invariant-loop-count
 invariant-loop-count l =
-    (l.count ≤ l.n) × Quiet l.initial.now l.map l.initial.regs l.initial.mem l.count l.regs l.now l.mem × Passed l.watched (l.count + 1) l.initial.now l.map l.initial.regs l.initial.mem
-
-abbrev pub decreases-loop-count : goal.decreases-loop-count
-decreases-loop-count l = l.n - l.count
+    Quiet l.initial.now l.map l.initial.regs l.initial.mem l.count l.regs l.now l.mem × Passed l.watched (l.count + 1) l.initial.now l.map l.initial.regs l.initial.mem

@@ -1,28 +1,26 @@
 -- `fetch` is right: a command byte is a value of one byte, and what a slice of bytes holds is below
 -- 256.
-use Rattle.std.proofs.Common.{sym, ap, ◌∙◌, arith}
+use Rattle.std.proofs.Common.{◌≡◌, sym, ap, ◌∙◌, arith}
+use Rattle.std.proofs.lemmas.Result.{err_from_is_err_and}
 use Rattle.machine.specs.Alarms.{got}
-use Rattle.machine.proofs.Pages.{read_alarm, read_page}
-use Rattle.lookup.proofs.Lookups.{look_found, look_alarm, look_inside}
+use Rattle.machine.proofs.Pages.{read_page}
+use Rattle.lookup.proofs.Lookups.{look_found, look_miss, look_inside}
 use Rattle.machine.proofs.Bytes.{one_byte_value}
+use Rattle.machine.specs.Map.{read_from}
+use Rattle.machine.specs.Words.{wrap}
 use Rattle.fetches.proofs.fetch.Goals as goal
 
-pub bounds-mem-at : goal.bounds-mem-at
-bounds-mem-at c =
-    look_inside _ _ _ _ _ _ _ c.in-At.is
-    c.look-s.ensures
+pub returns-in_err-r-clause-value : goal.returns-in_err-r-clause-value
+unfolding read_from
+returns-in_err-r-clause-value c =
+    let p = err_from_is_err_and c.from_residual.result c.from_residual.ensures.1 in
+    let unwrapped : wrap c.args.x.0 ≡ c.args.x.0 = omega arith in
+    rw (p.1, p.2, unwrapped, look_miss _ _ _ _ _ _ _ c.in_err-r.was c.look.ensures)
 
-pub returns-in-At : goal.returns-in-At
-returns-in-At c = let found = look_found c.in-At.is c.look-s.ensures
-    c.requires (omega arith) in record {
-      value = ap got (c.wide-b.ensures.0 ∙ one_byte_value _ _) ∙ sym (read_page found 1 (omega arith));
-      small = c.wide-b.ensures.1;
-      found = record { hit = found.hit };
-    }
+pub bounds-mem-r : goal.bounds-mem-r
+bounds-mem-r c = look_inside _ _ _ _ _ _ _ c.in_ok-r.was c.look.ensures
 
-pub returns-in-Alarm : goal.returns-in-Alarm
-returns-in-Alarm c = let stopped = look_alarm c.in-Alarm.is c.look-s.ensures (omega arith) in record {
-  value = sym (read_alarm stopped 1 0 (omega arith));
-  small = tt;
-  found = tt;
-}
+pub returns-clause-value : goal.returns-clause-value
+returns-clause-value c =
+    let found = look_found c.in_ok-r.was c.look.ensures c.requires (omega arith) in
+    ap got (c.wide.ensures.0 ∙ one_byte_value _ _) ∙ sym (read_page found 1 (omega arith))

@@ -11,8 +11,9 @@ use Rattle.machine.specs.Floats.{moved_float}
 use Rattle.machine.specs.FloatCode.{FloatCommand, gives, MOVE, CMP, float_table, known_float_in, known_float}
 use Rattle.machine.proofs.CommandBytes.{values, same}
 use Rattle.floats.proofs.Valued.{number_of_lem, combined_result}
+use Rattle.std.specs.Prelude.{Result, Ok, Err}
+use Rattle.machine.specs.declared.Fault.{Fault}
 use Rattle.floating.specs.declared.Action.{Action}
-use Rattle.floating.specs.declared.Action.TheVariants.{Alarm}
 use Rattle.floating.specs.Answers.{command_action, float_action}
 use Rattle.floating.proofs.action_of.Goals as goal
 
@@ -24,11 +25,15 @@ below_or_not (suc a) (suc b) = elim (below_or_not a b) [ inl h ↦ inl (omega ar
 
 module _ (kind : Kind) (x y b : ℕ) where
   -- what a byte asks for, and what a command does
-  abbrev act : ℕ → Action
+  abbrev act : ℕ → Result Action Fault
   act n = float_action n kind x y
 
-  abbrev does : FloatCommand → Action
-  does k = command_action k kind x y
+  abbrev does : FloatCommand → Result Action Fault
+  does k = Ok (command_action k kind x y)
+
+  -- the alarm of an unknown byte
+  abbrev unknown : ℕ → Result Action Fault
+  unknown n = Err (record { alarm = Command; argument = n })
 
   -- the byte is from lo on, below hi
   abbrev Within : ℕ → ℕ → Type 0
@@ -51,9 +56,8 @@ module _ (kind : Kind) (x y b : ℕ) where
       ]
 
   -- k bytes from lo on are unknown
-  gap : (lo k : ℕ) → values (λ b. Alarm b Command) k lo ≡ values act k lo → Within lo (lo + k)
-      → Alarm b Command ≡ act b
-  gap lo k e p = same (λ b. Alarm b Command) act k lo e b p.0 p.1
+  gap : (lo k : ℕ) → values unknown k lo ≡ values act k lo → Within lo (lo + k) → unknown b ≡ act b
+  gap lo k e p = same unknown act k lo e b p.0 p.1
 
 pub returns-in-160-to-161 : goal.returns-in-160-to-161
 unfolding float_action known_float known_float_in float_table moved_float

@@ -1,30 +1,31 @@
 -- `put` is right for each target: a store that ends gives the command's end.
+use Rattle.std.proofs.lemmas.Result.{err_from_is_err_and}
+use Rattle.machine.specs.declared.Target.TheVariants.{Memory}
 use Rattle.machine.specs.Map.{view_by, located, commit}
 use Rattle.machine.specs.Commands.{float_stored}
 use Rattle.results.proofs.Ends.{stored-end}
 use Rattle.floating.proofs.put.Goals as goal
+use Rattle.floating.proofs.put.Goals.{in-Nowhere, in-Register, in-Memory+in_ok-store-in-Memory}
 
-pub to_register-requires : goal.to_register-requires
-to_register-requires c = rw c.in-Register.is at c.requires.1
-
-pub returns-in-Nowhere : goal.returns-in-Nowhere
-unfolding float_stored located commit
-returns-in-Nowhere c = rw (c.in-Nowhere.is, c.with_flags-s.ensures)
-
-pub returns-in-Register : goal.returns-in-Register
-unfolding float_stored located commit
-returns-in-Register c =
-    rw (
-      c.in-Register.is,
-      c.to_register.ensures,
-      c.with_flags-s.ensures,
-    )
-
-pub returns-in-Memory : goal.returns-in-Memory
+pub returns-in_err-store-in-Memory : goal.returns-in_err-store-in-Memory
 unfolding float_stored
-returns-in-Memory c =
+returns-in_err-store-in-Memory c =
     let a = c.args in
-    rw c.in-Memory.is
-    (stored-end a.status a.mem.now (view_by a.status a.map a.mem.now) _ _ _ _
-    (rw c.with_flags-s.ensures
-    at c.ended.ensures) c.store-done.ensures)
+    let p = err_from_is_err_and c.from_residual.result c.from_residual.ensures.1 in
+    rw (p.1, p.2, c.in-Memory.is)
+    (stored-end a.status a.mem.now (view_by a.status a.map a.mem.now)
+    (float_stored a.kind a.x (Memory c.in-Memory.a) a.regs.now) _ c.in_err-store-in-Memory.ensures)
+
+pub returns : goal.returns
+unfolding float_stored located commit
+returns c =
+    let a = c.args in
+    rw c.with_flags.ensures
+    (elim c.match-target.branch [
+      | in-Nowhere w ↦ rw (w.in-Nowhere.is, w.regs-is, w.mem-is)
+      | in-Register w ↦ rw (w.in-Register.is, w.regs-is, w.mem-is, w.to_register.ensures)
+      | in-Memory+in_ok-store-in-Memory w ↦
+          rw (w.in-Memory.is, w.regs-is, w.mem-is)
+          (stored-end a.status a.mem.now (view_by a.status a.map a.mem.now)
+          (float_stored a.kind a.x (Memory w.in-Memory.a) a.regs.now) _ w.in_ok-store-in-Memory.ensures)
+    ])

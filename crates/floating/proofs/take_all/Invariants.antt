@@ -1,5 +1,4 @@
 -- `take_all` is right. The loop's invariant: the operands that are left give what all of them give.
-use Prim.Native.Nat.{◌+◌, ◌-◌}
 use Rattle.machine.specs.FloatCode.{float_operands_of}
 use Rattle.machine.specs.Map.{view_by}
 use Rattle.rules.specs.Rules.{roles_in}
@@ -13,12 +12,8 @@ invariant-loop-place l =
     (view_by l.status l.map l.mem)
     l.kind
     l.place
-    l.count
+    l.place-end
     l.rest
-    (record { first = l.first; second = l.second; target = l.target; registers = l.regs })
+    (record { first = l.taken.first; second = l.taken.second; target = l.taken.target; registers = l.regs })
     (float_operands_of (view_by l.status l.map l.mem) l.kind (roles_in l.rules) l.initial.regs)
-    × SmallTarget l.target
-
-abbrev pub decreases-loop-place : goal.decreases-loop-place
-decreases-loop-place l =
-    l.count + 1 - l.place
+    × SmallTarget l.taken.target

@@ -1,11 +1,7 @@
--- `due` is right: while no level above k is due, the level due among k to 1 is the level due.
-use Prim.Native.Nat.{◌≤◌}
-use mathlib.Core.Path.{◌≡◌}
+-- while no level from k on is due, the level due among those below k is the level due
+use Rattle.std.proofs.Common.{◌≡◌, ◌-◌}
 use Rattle.machine.specs.Steps.{due}
 use Rattle.levels.proofs.due.Given as goal
 
 abbrev pub invariant-loop-k : goal.invariant-loop-k
-invariant-loop-k l = (l.k ≤ 15) × (due l.k l.pending l.level ≡ due 15 l.pending l.level)
-
-abbrev pub decreases-loop-k : goal.decreases-loop-k
-decreases-loop-k l = l.k
+invariant-loop-k l = due (l.k - 1) l.pending l.level ≡ due 15 l.pending l.level

@@ -1,35 +1,17 @@
-use Prim.Native.Nat.{ℕ, suc, ◌<◌, ◌-◌, ◌+◌}
-use mathlib.Core.Path.{◌≡◌, sym, ◌∙◌}
+-- `fill` is right: a part of the memory, replaced by that many copies, is as the copies leave it.
+use mathlib.Core.Path.{◌≡◌, ◌∙◌, ap}
+use Prim.Native.Nat.{◌+◌, ◌-◌}
+use lib.ListN.{replicate, length-replicate}
 use native.Mathlib.Omega.{arith}
-use lib.ListN.{length-set, set, replicate}
-use lib.Seq.{sets}
-use Rattle.machine.specs.Words.{Memory}
+use Rattle.std.proofs.Common.{length-take, length-drop}
+use Rattle.load.proofs.Putting.{part_laid}
 use Rattle.load.proofs.fill.Goals as goal
 
-next-copy : (i n b : ℕ) (m : Memory) (a : ℕ) → i < n
-    → sets m (a + i) (replicate (n - i) b) ≡ sets (set m (a + i) b) (a + (i + 1)) (replicate (n - (i + 1)) b)
-next-copy i n b m a h =
-    let e : n - i ≡ suc (n - (i + 1)) = omega arith in
-    let f : a + (i + 1) ≡ suc (a + i) = omega arith in
-    rw (e, f)
-
-pub overflow_add-mem : goal.overflow_add-mem
-overflow_add-mem c = omega (arith, c.requires (omega arith))
-
-pub bounds-mem-at : goal.bounds-mem-at
-bounds-mem-at c = omega (arith, c.requires (omega arith))
-
-pub loop-i-preserved : goal.loop-i-preserved
-loop-i-preserved c =
-    let turn = c.loop-i in
-    let a = c.args in (
-      omega arith,
-      simp length-set turn.invariant.1,
-      sym (next-copy turn.i a.count a.byte turn.mem a.at c.loop-i-test.true) ∙ turn.invariant.2,
-    )
-
-pub returns : goal.returns
-returns c =
-    let end = c.loop-i in
-    let none : c.args.count - end.i ≡ 0 = omega arith in
-    rw none at end.invariant.2
+pub returns-then-count-gt0 : goal.returns-then-count-gt0
+returns-then-count-gt0 c =
+    let a = c.args in
+    let copies : c.fill.new.self ≡ replicate a.count a.byte =
+    c.fill.ensures.after (λ y e. e) ∙ ap (λ n. replicate n a.byte) (simp (length-take, length-drop) (omega (arith, c.requires c.if-count-gt0.true)))
+    in
+    part_laid a.mem.now a.at (a.at + a.count - a.at) c.fill.new.self (replicate a.count a.byte) copies
+    (omega (arith, length-replicate a.count a.byte)) (omega (arith, c.requires c.if-count-gt0.true))

@@ -18,4 +18,4 @@ returns-then-x-mem c =
 
 pub returns : goal.returns
 unfolding view_by unmapped
-returns c = simp (le-ltb _ _ c.if-x-mem.false, le-ltb _ _ c.if-status-lt2147483648.false)
+returns c = simp (c.at_byte.ensures, le-ltb _ _ c.if-x-mem.false, le-ltb _ _ c.if-status-lt2147483648.false)

@@ -1,16 +1,17 @@
--- `held_code` is right: the kind of a hold, and its place is added.
+-- The kind of a hold, and its place is added.
 use borrow.Author.Tests.{lt-ltb, le-ltb}
+use Rattle.std.proofs.Common.{rules}
 use Rattle.midesk.specs.Exports.{run_to_code}
 use Rattle.midesk.proofs.held_code.Goals as goal
 
-pub returns-then-place-lt-MOST : goal.returns-then-place-lt-MOST
+pub returns-in-Some : goal.returns-in-Some
 unfolding run_to_code
-returns-then-place-lt-MOST c = rw (c.in-At.is, lt-ltb _ _ c.if-place-lt-MOST.true)
+returns-in-Some c = search (rules, lt-ltb)
 
-pub returns-else-place-lt-MOST : goal.returns-else-place-lt-MOST
+pub returns-in_default : goal.returns-in_default
 unfolding run_to_code
-returns-else-place-lt-MOST c = rw (c.in-At.is, le-ltb _ _ c.if-place-lt-MOST.false)
+returns-in_default c = search (rules, le-ltb)
 
-pub returns-in-Nowhere : goal.returns-in-Nowhere
+pub returns-in_default-2 : goal.returns-in_default-2
 unfolding run_to_code
-returns-in-Nowhere c = rw c.in-Nowhere.is
+returns-in_default-2 c = search rules

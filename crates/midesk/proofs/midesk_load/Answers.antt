@@ -1,7 +1,9 @@
--- `midesk_load` is right: the call is that of `load`, and its answer becomes a number.
+-- The call is that of `load`, and its answer becomes a number.
+use Rattle.lists.specs.Refusals.{load_refusal_number}
 use Rattle.midesk.specs.Exports.{load_left, load_call}
+use Rattle.midesk.proofs.Numbers.{number_told}
 use Rattle.midesk.proofs.midesk_load.Goals as goal
 
 pub returns : goal.returns
 unfolding load_call load_left
-returns c = rw (c.number.ensures, ← c.load-a.ensures)
+returns c = rw (number_told load_refusal_number _ _ c.answer_number.ensures, ← c.load.ensures)

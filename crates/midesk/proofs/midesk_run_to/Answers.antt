@@ -13,5 +13,5 @@ returns c =
       memory = c.run_bytes-u.new.mem;
     } in
     composed c.gather-a.result c.args.points.now c.args.n c.args.state.now c.args.mem.now left
-    c.first_armed-f.result c.run_to_code.result c.gather-a.ensures c.run_bytes-u.ensures
-    c.first_armed-f.ensures c.run_to_code.ensures
+    c.first_armed.result c.run_to_code.result c.gather-a.ensures c.run_bytes-u.ensures
+    c.first_armed.ensures c.run_to_code.ensures

@@ -1,8 +1,8 @@
--- `midesk_step` is right: the bytes are unpacked for the call, and its desk is packed.
+-- The bytes are unpacked for the call, and its desk is packed.
+use Rattle.std.proofs.Common.{rules}
 use Rattle.midesk.specs.Exports.{step_left, step_call}
 use Rattle.midesk.proofs.midesk_step.Goals as goal
 
 pub returns : goal.returns
 unfolding step_call step_left
-returns c =
-    rw (c.step_code.ensures, c.pack.ensures, ← c.unpack.ensures, ← c.step-r.ensures)
+returns c = search rules

@@ -1,4 +1,4 @@
--- `midesk_version` is right: it answers the number of the version.
+-- It answers the number of the version.
 use mathlib.Core.Path.{refl}
 use Rattle.midesk.specs.Exports.{version}
 use Rattle.midesk.proofs.midesk_version.Goals as goal

@@ -1,14 +1,12 @@
--- `run_to_code` is right: each case has its kind, and its number is added.
+-- Each case has its kind, and its number is added.
+use Rattle.std.proofs.Common.{rules}
 use Rattle.midesk.specs.Exports.{run_to_code}
 use Rattle.midesk.proofs.run_to_code.Goals as goal
 
-pub returns-in-Refused : goal.returns-in-Refused
+pub returns-in-Err : goal.returns-in-Err
 unfolding run_to_code
-returns-in-Refused c = simp (c.number.ensures, c.in-Refused.is)
+returns-in-Err c = search rules
 
-pub returns-in-Ended : goal.returns-in-Ended
+pub returns-in-Ok-None : goal.returns-in-Ok-None
 unfolding run_to_code
-returns-in-Ended c = rw c.in-Ended.is
-
-pub returns-in-Held : goal.returns-in-Held
-returns-in-Held c = rw c.in-Held.is c.held_code.ensures
+returns-in-Ok-None c = search rules

@@ -1,19 +1,20 @@
--- `step_code` is right: each case has its kind, and its number is added.
+-- Each case has its kind, and its number is added.
+use Rattle.std.proofs.Common.{rules}
 use Rattle.midesk.specs.Exports.{step_code}
 use Rattle.midesk.proofs.step_code.Goals as goal
 
-pub returns-in-Done : goal.returns-in-Done
+pub returns-in-Ok-Done : goal.returns-in-Ok-Done
 unfolding step_code
-returns-in-Done c = simp (c.number-number.ensures, c.in-Done.is)
+returns-in-Ok-Done c = search rules
 
-pub returns-in-Refused : goal.returns-in-Refused
+pub returns-in-Err : goal.returns-in-Err
 unfolding step_code
-returns-in-Refused c = simp (c.number-number.ensures, c.in-Refused.is)
+returns-in-Err c = search rules
 
-pub returns-in-Entered : goal.returns-in-Entered
+pub returns-in-Ok-Entered : goal.returns-in-Ok-Entered
 unfolding step_code
-returns-in-Entered c = simp (c.number-number.ensures, c.in-Entered.is)
+returns-in-Ok-Entered c = search rules
 
-pub returns-in-Stopped : goal.returns-in-Stopped
+pub returns-in-Ok-Stopped : goal.returns-in-Ok-Stopped
 unfolding step_code
-returns-in-Stopped c = simp (c.number-number.ensures, c.in-Stopped.is)
+returns-in-Ok-Stopped c = search rules

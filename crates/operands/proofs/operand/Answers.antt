@@ -1,34 +1,15 @@
 -- `operand` is right: the fields at R15, R15 moved past them, and then the form.
-use native.Mathlib.Omega.{arith}
-use borrow.Author.Rules.{rules}
+use Rattle.std.proofs.lemmas.Result.{err_from_is_err_and}
 use Rattle.machine.specs.Operands.{operand_at}
 use Rattle.operands.proofs.operand.Goals as goal
 
-pub by_form-requires : goal.by_form-requires
-by_form-requires c = (
-  c.requires.0,
-  omega (
-    arith,
-    rw c.in-Fields.is
-        at c.fields-f.ensures.small,
-  ),
-)
-
-pub returns-in-Fields : goal.returns-in-Fields
+pub returns-in_err-fields-clause-location : goal.returns-in_err-fields-clause-location
 unfolding operand_at
-returns-in-Fields c = record {
-  location = simp (
-    ← c.by_form.ensures.location,
-    ← c.plus.ensures,
-    c.in-Fields.is,
-    ← c.fields-f.ensures.value,
-  );
-  small = c.by_form.ensures.small;
-}
+returns-in_err-fields-clause-location c =
+    let p = err_from_is_err_and c.from_residual.result c.from_residual.ensures.1 in
+    rw (p.1, p.2) (simp (← c.in_err-fields.ensures))
 
-pub returns-in-Alarm : goal.returns-in-Alarm
+pub returns-clause-location : goal.returns-clause-location
 unfolding operand_at
-returns-in-Alarm c = record {
-  location = simp (c.in-Alarm.is, ← c.fields-f.ensures.value);
-  small = search rules;
-}
+returns-clause-location c =
+    simp (c.by_form.ensures.location, c.length.ensures, c.plus.ensures, ← c.in_ok-fields.ensures)

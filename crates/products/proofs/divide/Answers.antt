@@ -5,7 +5,6 @@ use Rattle.machine.specs.Words.{length_of}
 use Rattle.machine.specs.Integers.{divided}
 use Rattle.machine.proofs.Magnitudes.{magnitude, quotient_fits_by_magnitude, kept_quotient}
 use Rattle.integers.proofs.Sized.{some_bytes, span-word}
-use Rattle.products.proofs.Words.{magnitude_positive}
 use Rattle.products.proofs.divide.Goals as goal
 
 pub with_sign-x-requires : goal.with_sign-x-requires

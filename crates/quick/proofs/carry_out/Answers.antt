@@ -5,11 +5,10 @@ use Rattle.rules.proofs.OneSize as row
 use Rattle.sure.proofs.Remaining.{nothing_changed}
 use Rattle.quick.proofs.carry_out.Goals as goal
 
-pub carry_out_words-requires : goal.carry_out_words-requires
-carry_out_words-requires c = let word = sym c.in-W.is ∙ c.size_in-size.ensures in record {
-  fits = c.requires.fits;
-  all_of = rw c.requires.b_bound.1 (row.words _ c.requires.b_bound.0 (word ∙ c.requires.b_bound.2));
-}
+pub carry_out_words-requires-clause-all_of : goal.carry_out_words-requires-clause-all_of
+carry_out_words-requires-clause-all_of c =
+    let rows = c.requires.b_bound in
+    rw rows.1 (row.words _ rows.0 (c.in-W.ensures ∙ rows.2))
 
 pub returns-then-b-eq33 : goal.returns-then-b-eq33
 returns-then-b-eq33 c = (nothing_changed _, refl)
@@ -18,7 +17,7 @@ pub carry_out_narrow-requires : goal.carry_out_narrow-requires
 carry_out_narrow-requires c =
     let rows = c.requires.b_bound in
     let own = row.narrow _ rows.0 c.if-b-eq33.false
-    (λ e. c.in_default.not-W (c.size_in-size.ensures ∙ rows.2 ∙ sym e)) in record {
+    (λ e. c.in_default.not-W (c.size_in.ensures ∙ rows.2 ∙ sym e)) in record {
       fits = c.requires.fits;
-      rules_value = rw (rows.2, rows.1) (own.own, own.all, own.plain);
+      rules_value = rw (rows.2, rows.1) (own.own, own.all);
     }

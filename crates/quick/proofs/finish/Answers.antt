@@ -3,10 +3,11 @@
 use Rattle.commands.specs.Execution.{action_end}
 use Rattle.quick.proofs.finish.Goals as goal
 
-pub returns-in-W : goal.returns-in-W
+pub returns-in-Give-W-default : goal.returns-in-Give-W-default
 unfolding action_end
-returns-in-W c =
-    rw (c.in-Give.is, c.in-W.is) c.put.ensures
+returns-in-Give-W-default c =
+    let word = c.in-Give-W-default in
+    rw (word.is, rw word.is at word.field-0-is) c.put.ensures
 
 pub returns-in-Flags : goal.returns-in-Flags
 unfolding action_end

@@ -11,14 +11,6 @@ use Rattle.sure.proofs.Places.{has_bytes, placed_inside}
 use Rattle.commands.proofs.Written.{written}
 use Rattle.quick.proofs.put.Goals as goal
 
-pub bounds-regs-k : goal.bounds-regs-k
-bounds-regs-k c = rw c.in-Register.is at c.requires.1
-
-pub bounds-regs-k-in-Register : goal.bounds-regs-k-in-Register
-bounds-regs-k-in-Register c =
-    rw c.in-Register.is
-    at c.requires.1
-
 pub value_to-requires : goal.value_to-requires
 value_to-requires c =
     let found : (let a = c.args in

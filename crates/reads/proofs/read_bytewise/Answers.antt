@@ -1,55 +1,36 @@
-use Rattle.std.proofs.Common.{◌≡◌, sym, ◌∙◌, arith}
-use Rattle.lookup.proofs.Lookups.{look_found, look_alarm, look_inside}
-use Rattle.reads.proofs.Reading.{three_bytes, one_byte_more, read_all, read_next, read_stops, read_ends}
+use Rattle.std.proofs.Common.{sym, ◌∙◌, arith}
+use Rattle.std.proofs.lemmas.Result.{err_from_is_err_and}
+use Rattle.lookup.proofs.Lookups.{look_found, look_miss, look_inside}
+use Rattle.reads.proofs.Reading.{three_bytes, one_byte_more, read_next, read_stops, read_ends}
 use Rattle.reads.proofs.read_bytewise.Goals as goal
 
-pub loop-i-init : goal.loop-i-init
-loop-i-init c = (omega arith, omega arith, read_all _ _ _ _)
-
-pub overflow_cast-at : goal.overflow_cast-at
-overflow_cast-at c =
-    omega (
-      arith,
-      look_inside _ _ _ _ _ _ _ c.in-At.is
-          c.look-s.ensures,
-    )
+pub returns-in_err-r-clause-value : goal.returns-in_err-r-clause-value
+returns-in_err-r-clause-value c =
+    let p = err_from_is_err_and c.from_residual.result c.from_residual.ensures.1 in
+    rw (p.1, p.2)
+    (sym (c.loop-i.invariant.1 ∙ read_stops _ _ _ _ _ _ _ c.loop-i-test.true c.plus.ensures _ _
+    (look_miss _ _ _ _ _ _ _ c.in_err-r.was c.look.ensures)))
 
 pub overflow_mul-acc : goal.overflow_mul-acc
 overflow_mul-acc c =
     let turn = c.loop-i in
-    omega (arith, three_bytes turn.i turn.acc (omega arith) turn.invariant.1)
+    omega (arith, three_bytes turn.i turn.acc (omega arith) turn.invariant.0)
 
-pub bounds-mem-at : goal.bounds-mem-at
-bounds-mem-at c =
-    look_inside _ _ _ _ _ _ _ c.in-At.is
-    c.look-s.ensures
+pub bounds-mem-r : goal.bounds-mem-r
+bounds-mem-r c = look_inside _ _ _ _ _ _ _ c.in_ok-r.was c.look.ensures
 
 pub overflow_add-acc : goal.overflow_add-acc
 overflow_add-acc c =
     let turn = c.loop-i in
-    omega (arith, three_bytes turn.i turn.acc (omega arith) turn.invariant.1)
-
-pub returns-in-Alarm : goal.returns-in-Alarm
-returns-in-Alarm c = let stopped = look_alarm c.in-Alarm.is c.look-s.ensures (omega arith) in record {
-  value = sym (c.loop-i.invariant.2 ∙ read_stops _ _ _ _ _ _ _ c.loop-i-test.true
-      c.wrapping_add_u32-a.ensures.value _ _ stopped.miss);
-  small = tt;
-}
+    omega (arith, three_bytes turn.i turn.acc (omega arith) turn.invariant.0)
 
 pub loop-i-preserved : goal.loop-i-preserved
 loop-i-preserved c =
     let turn = c.loop-i in
-    let found = look_found c.in-At.is c.look-s.ensures
-    c.requires.0 (omega arith) in (
-      omega arith,
-      one_byte_more turn.i turn.acc _ turn.invariant.1 c.wide.ensures.1,
-      turn.invariant.2 ∙ read_next _ _ _ _ _ _ _ c.loop-i-test.true c.wrapping_add_u32-a.ensures.value _ _
-          found.hit c.wide.ensures.0,
+    let found = look_found c.in_ok-r.was c.look.ensures c.requires.0 (omega arith) in (
+      one_byte_more turn.i turn.acc _ turn.invariant.0 c.wide.ensures.1,
+      turn.invariant.1 ∙ read_next _ _ _ _ _ _ _ c.loop-i-test.true c.plus.ensures _ _ found.hit c.wide.ensures.0,
     )
 
-pub returns : goal.returns
-returns c = let turn = c.loop-i in
-    let all : turn.i ≡ c.args.n = omega arith in record {
-      value = sym (turn.invariant.2 ∙ read_ends _ _ _ _ _ _ c.loop-i-test.false);
-      small = rw all at turn.invariant.1;
-    }
+pub returns-clause-value : goal.returns-clause-value
+returns-clause-value c = sym (c.loop-i.invariant.1 ∙ read_ends _ _ _ _ _ _ c.loop-i-test.false)

@@ -1,10 +1,8 @@
 -- `fill` is right: a turn lays the next word, and the last one is raised.
 use Prim.Native.Nat.{ℕ, suc, ◌<◌, ◌-◌, ◌+◌, ◌*◌}
 use mathlib.Core.Path.{◌≡◌, refl, sym, ◌∙◌}
-use native.Mathlib.Nat.{add-zero}
 use native.Mathlib.Numerals.{add-one}
 use native.Mathlib.Omega.{arith}
-use borrow.Author.Rules.{rules}
 use lib.ListN.{set}
 use Rattle.machine.specs.State.{Registers}
 use Rattle.machine.specs.Words.{Memory, raised, word_at, words_at}
@@ -26,11 +24,9 @@ last_laid m a r = refl
 pub loop-i-preserved : goal.loop-i-preserved
 loop-i-preserved c =
     let turn = c.loop-i in
-    let a = c.args in (
-      omega arith,
-      rw c.word.ensures
-          (sym (next_laid turn.i a.mem.now a.at turn.regs (omega arith)) ∙ turn.invariant.1),
-    )
+    let a = c.args in
+    rw c.word.ensures
+    (sym (next_laid turn.i a.mem.now a.at turn.regs (omega arith)) ∙ turn.invariant)
 
 pub returns : goal.returns
 returns c =
@@ -38,7 +34,4 @@ returns c =
     let a = c.args in
     let all : end.i ≡ 14 = omega arith in
     rw (c.plus.ensures, c.word-2.ensures)
-    (sym (last_laid a.mem.now a.at end.regs) ∙ rw all at end.invariant.1)
-
-pub loop-i-init : goal.loop-i-init
-loop-i-init c = (search rules, rw add-zero)
+    (sym (last_laid a.mem.now a.at end.regs) ∙ rw all at end.invariant)

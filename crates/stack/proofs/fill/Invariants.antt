@@ -1,6 +1,6 @@
 -- `fill` is right: before word i, what is left to lay, on the registers as they are, gives what all
 -- of it gives on the first ones.
-use Prim.Native.Nat.{ℕ, ◌≤◌, ◌-◌, ◌+◌, ◌*◌}
+use Prim.Native.Nat.{ℕ, ◌-◌, ◌+◌, ◌*◌}
 use mathlib.Core.Path.{◌≡◌}
 use mathlib.Core.List.{[], ◌∷◌, ◌++◌}
 use lib.Seq.{sets}
@@ -14,8 +14,4 @@ laid_from i m a r = sets r i (words_at (14 - i) m (a + 4 * i) ++ raised (word_at
 
 abbrev pub invariant-loop-i : goal.invariant-loop-i
 invariant-loop-i l =
-    (l.i ≤ 14)
-    × (laid_from l.i l.mem l.at l.regs ≡ sets l.initial.regs 0 (words_at 14 l.mem l.at ++ raised (word_at l.mem (l.at + 56)) 4 ∷ []))
-
-abbrev pub decreases-loop-i : goal.decreases-loop-i
-decreases-loop-i l = 14 - l.i
+    laid_from l.i l.mem l.at l.regs ≡ sets l.initial.regs 0 (words_at 14 l.mem l.at ++ raised (word_at l.mem (l.at + 56)) 4 ∷ [])

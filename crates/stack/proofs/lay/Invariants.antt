@@ -1,15 +1,9 @@
 -- `lay` is right: after i turns the first i registers are laid; SP, lowered, comes last.
-use Prim.Native.Nat.{◌≤◌, ◌-◌}
 use mathlib.Core.Path.{◌≡◌}
-use lib.ListN.{length}
 use lib.Seq.{sets}
 use Rattle.machine.specs.Words.{bytes_of_words}
 use Rattle.machine.specs.State.{registers_from}
 use Rattle.stack.proofs.lay.Given as goal
 
 abbrev pub invariant-loop-i : goal.invariant-loop-i
-invariant-loop-i l =
-    (l.i ≤ 14) × (length l.bytes ≡ length l.initial.bytes) × (l.bytes ≡ sets l.initial.bytes l.at (bytes_of_words (registers_from l.i 0 l.regs)))
-
-abbrev pub decreases-loop-i : goal.decreases-loop-i
-decreases-loop-i l = 14 - l.i
+invariant-loop-i l = l.bytes ≡ sets l.initial.bytes l.at (bytes_of_words (registers_from l.i 0 l.regs))

@@ -6,17 +6,12 @@ use Rattle.reads.proofs.Reading.{read-virtual}
 use Rattle.results.proofs.Ends.{same_status}
 use Rattle.stack.proofs.ret.Goals as goal
 
-pub returns-in-Value : goal.returns-in-Value
+pub returns : goal.returns
 unfolding returned located commit
-returns-in-Value c =
+returns c =
     rw (
       read-virtual,
-      ← c.read-w.ensures,
-      c.in-Value.is,
+      ← c.in_ok-regs.ensures,
       same_status,
       c.plus.ensures,
     )
-
-pub returns-in-Alarm : goal.returns-in-Alarm
-unfolding returned located commit
-returns-in-Alarm c = rw (read-virtual, ← c.read-w.ensures, c.in-Alarm.is)

@@ -4,10 +4,5 @@ use Rattle.machine.proofs.Blocks.{bytes_first}
 use Rattle.words.proofs.Values.{length_bounds}
 use Rattle.stores.proofs.bytes_of.Goals as goal
 
-pub value_to-requires : goal.value_to-requires
-value_to-requires c = omega (arith, length_bounds c.args.size)
-
 pub returns : goal.returns
-returns c =
-    rw c.value_to.ensures
-    (bytes_first _ _ _ (omega (arith, length_bounds c.args.size)))
+returns c = rw c.value_to.ensures (bytes_first _ _ _ (omega (arith, length_bounds c.args.size)))

@@ -20,7 +20,6 @@ returns c = let s = c.args.size in
         c.span_of-m.ensures.value,
         c.half_of-h.ensures.value,
         c.low-x.ensures.value,
-        c.wrapping_add_u32.ensures.value,
         low_word s (q + p),
         ← c.low-p.ensures.value,
         ← c.low-q.ensures.value,

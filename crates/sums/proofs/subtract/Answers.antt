@@ -1,6 +1,6 @@
 -- `subtract` is right: the difference by its last L bytes and its borrow, and V where the biased
 -- one leaves the range.
-use Rattle.std.proofs.Common.{arith, rules}
+use Rattle.std.proofs.Common.{◌+◌, ◌-◌, ◌%◌, ◌^◌, arith, rules}
 use Rattle.machine.specs.Words.{length_of}
 use Rattle.machine.specs.Integers.{subtracted}
 use Rattle.machine.proofs.Results.{kept_difference}
@@ -19,7 +19,7 @@ returns c = let s = c.args.size in
         c.biased-s.ensures.value,
         c.half_of-h.ensures.value,
         c.low-x.ensures.value,
-        low_difference s p q c.wrapping_sub_u32.result (omega arith) c.wrapping_sub_u32.ensures.value,
+        low_difference s p q ((q + (2 ^ 32 - p)) % 2 ^ 32) (omega arith) (omega arith),
         ← c.low-p.ensures.value,
         ← c.low-q.ensures.value,
         kept_difference (length_of s) p q c.low-p.ensures.small,

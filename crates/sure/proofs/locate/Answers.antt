@@ -1,5 +1,4 @@
--- `locate` is right: each arm is one form, with its rule first; a word's address wraps once.
--- z fits a word
+-- `locate` is right: each arm is one form with its rule; a word's address wraps once.
 use mathlib.Core.Path.{◌≡◌, refl}
 use native.Mathlib.Omega.{arith}
 use borrow.Author.Tests.{eq-eqb, lt-ltb}
@@ -7,59 +6,28 @@ use Rattle.machine.specs.Words.{wrap}
 use Rattle.machine.specs.Operands.{keeps_rules, by_form}
 use Rattle.sure.proofs.locate.Goals as goal
 
-pub returns-then-y-eq0 : goal.returns-then-y-eq0
+-- z fits a word
+pub returns-in-0-clause-spot : goal.returns-in-0-clause-spot
 unfolding keeps_rules by_form
-returns-then-y-eq0 c = let unwrapped : wrap c.args.z ≡ c.args.z =
-    omega arith in record {
-      spot = record {
-        same = λ v place L.
-            simp (
-              c.in-0.is,
-              c.if-x-eq0.true,
-              c.if-y-eq0.true,
-              unwrapped,
-            );
-      };
-      small = tt;
-    }
+returns-in-0-clause-spot c =
+    let unwrapped : wrap c.args.fields.z ≡ c.args.fields.z = omega arith in
+    record { same = λ v place L. simp (c.in-0.is, c.if-x-eq0.true, c.if-y-eq0.true, unwrapped) }
 
-pub returns-then-y-eq0-2 : goal.returns-then-y-eq0-2
+pub returns-in-1-clause-spot : goal.returns-in-1-clause-spot
 unfolding keeps_rules by_form
-returns-then-y-eq0-2 c = record {
-  spot = record {
-    same = λ v place L fits.
-        simp (c.in-1.is, c.if-x-eq0-2.true, c.if-y-eq0-2.true, lt-ltb _ _ fits);
-  };
-  small = tt;
+returns-in-1-clause-spot c = record {
+  same = λ v place L fits. simp (c.in-1.is, c.if-x-eq0-2.true, c.if-y-eq0-2.true, lt-ltb _ _ fits);
 }
 
-pub returns-then-z-eq0 : goal.returns-then-z-eq0
+pub returns-in-2-clause-spot : goal.returns-in-2-clause-spot
 unfolding keeps_rules by_form
-returns-then-z-eq0 c = record {
-  spot = (
-    record {
-      same = λ v place L.
-          simp (
-            c.in-2.is,
-            eq-eqb _ _ c.if-y-eq0-3.true,
-            c.if-z-eq0.true,
-          );
-    },
-    refl,
-  );
-  small = c.requires.0;
-}
+returns-in-2-clause-spot c = (
+  record { same = λ v place L. simp (c.in-2.is, eq-eqb _ _ c.if-y-eq0-3.true, c.if-z-eq0.true) },
+  refl,
+)
 
-pub returns-then-y-eq0-4 : goal.returns-then-y-eq0-4
+pub returns-in-3-clause-spot : goal.returns-in-3-clause-spot
 unfolding keeps_rules by_form
-returns-then-y-eq0-4 c = record {
-  spot = record {
-    same = λ v place L.
-        simp (
-          c.in-3.is,
-          eq-eqb _ _ c.if-y-eq0-4.true,
-          ← c.plus.ensures,
-        );
-  };
-  small = tt;
+returns-in-3-clause-spot c = record {
+  same = λ v place L. simp (c.in-3.is, eq-eqb _ _ c.if-y-eq0-4.true, ← c.plus.ensures);
 }

@@ -1,49 +1,38 @@
--- `take_memory` is right: an address is not looked up; a word that is written is looked up for
+-- `take_memory` is right: an address is not looked up; a value that is written is looked up for
 -- writing, and may then be read there too.
--- the word was found, for what the role does with it
-use mathlib.Core.Path.{◌≡◌, sym, ◌∙◌}
-use native.Mathlib.Omega.{arith}
-use borrow.Author.Rules.{rules}
+use mathlib.Core.Path.{◌≡◌, sym, ap, ◌∙◌}
+use Rattle.std.specs.Prelude.{Ok}
 use Rattle.machine.specs.declared.Access.TheVariants.{Read}
+use Rattle.machine.specs.Words.{length_of}
 use Rattle.machine.specs.Alarms.{got}
 use Rattle.machine.specs.Map.{read_bytes, view_by}
 use Rattle.sure.specs.Answers.{Placed}
-use Rattle.sure.proofs.Places.{placed, placed_inside, word_read}
-use Rattle.sure.proofs.Taking.{written_access, takes_address, takes_written, takes_value}
+use Rattle.sure.proofs.Places.{placed, has_bytes, placed_inside, placed_read}
+use Rattle.sure.proofs.Taking.{takes_address, takes_written, takes_value}
 use Rattle.sure.proofs.take_memory.Goals as goal
 
-pub word-requires : goal.word-requires
-word-requires c =
-    let found : Placed c.args.status c.args.map c.args.mem.now 4 c.args.a c.access-why.result
-    c.in-At.r =
-    placed c.in-At.is c.look_whole-s.ensures in
-    placed_inside (omega arith) found c.requires
+pub returns-then-addresses-clause-value : goal.returns-then-addresses-clause-value
+returns-then-addresses-clause-value c = takes_address _ _ _ _ (sym c.if-addresses.ensures)
 
-pub returns-then-addresses : goal.returns-then-addresses
-returns-then-addresses c = record {
-  value = takes_address _ _ _ _ (sym c.addresses.ensures ∙ c.if-addresses.true);
-  reaches = search rules;
-}
+pub value_at-requires : goal.value_at-requires
+value_at-requires c =
+    let found : (let a = c.args in Placed a.status a.map a.mem.now (length_of a.size) a.a c.access.result c.in-Ok-Some.r) =
+    placed (c.in-Ok-Some.is ∙ ap Ok (rw c.in-Ok-Some.is at c.in-Ok-Some.field-0-is)) (rw c.length.ensures at c.look_whole-found.ensures) in
+    placed_inside (has_bytes c.args.size) found c.requires
 
-pub returns-then-writes : goal.returns-then-writes
-returns-then-writes c = let found : Placed c.args.status c.args.map c.args.mem.now 4 c.args.a c.access-why.result
-    c.in-At.r =
-    placed c.in-At.is c.look_whole-s.ensures in
-    let read : read_bytes (view_by c.args.status c.args.map c.args.mem.now) Read 4 c.args.a ≡ got c.word.result =
-    rw c.word.ensures (word_read found c.requires) in
-    let writes = sym c.writes.ensures ∙ c.if-writes.true in record {
-      value = rw c.number-n.ensures (takes_written _ _ _ _ read _ _ writes);
-      reaches = rw (c.access-why.ensures, written_access _ writes) at found;
-    }
+pub returns-then-writes-clause-value : goal.returns-then-writes-clause-value
+returns-then-writes-clause-value c =
+    let found : (let a = c.args in Placed a.status a.map a.mem.now (length_of a.size) a.a c.access.result c.in-Ok-Some.r) =
+    placed (c.in-Ok-Some.is ∙ ap Ok (rw c.in-Ok-Some.is at c.in-Ok-Some.field-0-is)) (rw c.length.ensures at c.look_whole-found.ensures) in
+    let read : (let a = c.args in read_bytes (view_by a.status a.map a.mem.now) Read (length_of a.size) a.a ≡ got c.value_at.result) =
+    rw c.value_at.ensures (placed_read (has_bytes c.args.size) found c.requires) in
+    rw c.number-number.ensures (takes_written _ _ _ _ read _ _ (sym c.if-writes.ensures))
 
-pub returns-else-writes : goal.returns-else-writes
-returns-else-writes c = let found : Placed c.args.status c.args.map c.args.mem.now 4 c.args.a c.access-why.result
-    c.in-At.r =
-    placed c.in-At.is c.look_whole-s.ensures in
-    let read : read_bytes (view_by c.args.status c.args.map c.args.mem.now) Read 4 c.args.a ≡ got c.word.result =
-    rw c.word.ensures (word_read found c.requires) in record {
-      value = rw c.number-n.ensures
-          (takes_value _ _ _ _ read _ (sym c.addresses.ensures ∙ c.if-addresses.false)
-          (sym c.writes.ensures ∙ c.if-writes.false));
-      reaches = search rules;
-    }
+pub returns-else-writes-clause-value : goal.returns-else-writes-clause-value
+returns-else-writes-clause-value c =
+    let found : (let a = c.args in Placed a.status a.map a.mem.now (length_of a.size) a.a c.access.result c.in-Ok-Some.r) =
+    placed (c.in-Ok-Some.is ∙ ap Ok (rw c.in-Ok-Some.is at c.in-Ok-Some.field-0-is)) (rw c.length.ensures at c.look_whole-found.ensures) in
+    let read : (let a = c.args in read_bytes (view_by a.status a.map a.mem.now) Read (length_of a.size) a.a ≡ got c.value_at.result) =
+    rw c.value_at.ensures (placed_read (has_bytes c.args.size) found c.requires) in
+    rw c.number-number.ensures
+    (takes_value _ _ _ _ read _ (sym c.if-addresses.ensures) (sym c.if-writes.ensures))

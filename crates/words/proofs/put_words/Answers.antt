@@ -1,5 +1,4 @@
-use Rattle.std.proofs.Common.{◌≡◌, ◌+◌, ◌-◌, ◌*◌, ◌≤◌, length, drop, sym, refl, ◌∙◌, add-zero, arith, drop_of_length-le, rules}
-use lib.Seq.{sets}
+use Rattle.std.proofs.Common.{sym, ◌∙◌, arith, drop_of_length-le}
 use Rattle.machine.specs.Words.{bytes_of_words}
 use Rattle.machine.proofs.Blocks.{sets_next}
 use Rattle.words.proofs.put_words.Goals as goal

@@ -1,4 +1,4 @@
-use Rattle.std.proofs.Common.{◌≡◌, ◌-◌, ◌<◌, ◌≤◌, length, take, sym, refl, ◌∙◌, add-one, arith, length-set, take_all, take-suc-set, rules}
+use Rattle.std.proofs.Common.{◌≡◌, ◌<◌, length, sym, refl, ◌∙◌, add-one, arith, length-set, take_all, take-suc-set, rules}
 use Rattle.machine.specs.Words.{words_at}
 use Rattle.machine.proofs.Blocks.{words_more}
 use Rattle.words.proofs.sixteen.Goals as goal

@@ -1,5 +1,5 @@
 -- `value_at` is right for each size: its bytes, highest first, make up the number.
-use Rattle.std.proofs.Common.{◌∙◌, arith, rules}
+use Rattle.std.proofs.Common.{◌∙◌, arith}
 use Rattle.machine.proofs.Bytes.{one_byte_value, two_byte_value, four_byte_value}
 use Rattle.words.proofs.value_at.Goals as goal
 

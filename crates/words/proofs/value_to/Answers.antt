@@ -1,5 +1,5 @@
 -- `value_to` is right for each size: its bytes go one after the other to the places from a on.
-use Rattle.std.proofs.Common.{sym, arith, length-set, rules}
+use Rattle.std.proofs.Common.{arith, length-set}
 use Rattle.words.proofs.Bytes.{one_byte_laid, two_bytes_laid, four_bytes_laid}
 use Rattle.words.proofs.value_to.Goals as goal
 

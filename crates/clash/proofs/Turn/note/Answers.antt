@@ -6,9 +6,6 @@ pub returns-then-first-half : goal.returns-then-first-half
 unfolding compared
 returns-then-first-half c = rw (c.in-Second.is, c.if-first-half.true)
 
-pub returns-in-First : goal.returns-in-First
-returns-in-First c = rw c.in-First.is
-
 pub returns-else-first-half : goal.returns-else-first-half
 unfolding compared
 returns-else-first-half c = rw (c.in-Second.is, c.if-first-half.false)

@@ -1,0 +1,13 @@
+// The addresses of the armed breakpoints of a list, as plain data.
+ghost use Rattle.std.specs.Prelude.{◌≤◌};
+
+use crate::MOST;
+
+// They stand in the list's order, the first `count` of the array; beside them the length of the list.
+#[derive(Clone, Copy)]
+pub struct Armed {
+    pub addresses: [u32; MOST],
+    pub count: usize,
+    pub length: usize,
+    pub ghost room: { count ≤ 64 },
+}

@@ -1,9 +1,0 @@
--- `patch` is safe and ends: one run fewer is left with each turn.
-use Rattle.std.proofs.Common.{◌≡◌, length}
-use Rattle.cases.proofs.memory.patch.Given as goal
-
-abbrev pub invariant-loop-left : goal.invariant-loop-left
-invariant-loop-left l = length l.mem ≡ length l.initial.mem
-
-abbrev pub decreases-loop-left : goal.decreases-loop-left
-decreases-loop-left l = l.left
