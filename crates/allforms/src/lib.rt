@@ -4,7 +4,6 @@
 // to 3 alone, and needs no copy of the registers.)
 #![tactic(auto)]
 
-ghost use Rattle.std.specs.Prelude.{◌<◌};
 ghost use Rattle.fetches.specs.Answers.{FetchedFrom, named};
 ghost use Rattle.lookup.specs.Answers.{Fits};
 ghost use Rattle.machine.specs.declared.Access.TheVariants.{Read};
@@ -15,6 +14,7 @@ ghost use Rattle.sure.specs.Answers.{OperandOf, ReachesAll, ReachesTaken, ReadyO
 
 use fetches::{Fields, Start};
 use machine::{Access, Map, Role, Size, VirtualAddress};
+use rules::Rules;
 use sure::{Operands, Spot, Taken};
 
 // ---- Where an operand is
@@ -95,11 +95,11 @@ fn take_each(
     status: u32,
     map: Map,
     start: Start,
-    rules: u32,
+    rules: Rules,
 ) -> Option<Operands>
-    requires fits { Fits map mem.now × FetchedFrom (view_by status map mem.now) mem.now start × (rules < 65536) }
-    requires all_of { AllOf Size.W (rules_in rules) }
-    ensures value { ReadyOf (view_by status map mem.now) (rules_in rules)
+    requires fits { Fits map mem.now × FetchedFrom (view_by status map mem.now) mem.now start }
+    requires all_of { AllOf Size.W (rules_in rules.number) }
+    ensures value { ReadyOf (view_by status map mem.now) (rules_in rules.number)
         regs.old regs.new result }
     ensures reaches { ReachesAll 4 status map mem.now result }
 {
@@ -108,7 +108,7 @@ fn take_each(
     for place in 1..rules::count_in(rules) + 1 {
         let taken = operand(mem, regs, status, map, start, rules::role_in(rest))?;
         all = sure::with(all, place, taken);
-        rest = rest / 16;
+        rest = rules::rest_of(rest);
     }
     Some(all)
 }
@@ -120,11 +120,11 @@ pub fn take_all(
     status: u32,
     map: Map,
     start: Start,
-    rules: u32,
+    rules: Rules,
 ) -> Option<Operands>
-    requires fits { Fits map mem.now × FetchedFrom (view_by status map mem.now) mem.now start × (rules < 65536) }
-    requires all_of { AllOf Size.W (rules_in rules) }
-    ensures value { ReadyOf (view_by status map mem.now) (rules_in rules)
+    requires fits { Fits map mem.now × FetchedFrom (view_by status map mem.now) mem.now start }
+    requires all_of { AllOf Size.W (rules_in rules.number) }
+    ensures value { ReadyOf (view_by status map mem.now) (rules_in rules.number)
         regs.old regs.new result }
     ensures reaches { ReachesAll 4 status map mem.now result }
     ensures kept { KeptUnsure regs.old regs.new result }

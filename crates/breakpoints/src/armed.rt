@@ -9,5 +9,5 @@ pub struct Armed {
     pub addresses: [u32; MOST],
     pub count: usize,
     pub length: usize,
-    pub ghost room: { count ≤ 64 },
+    pub ghost room: { length ≤ 64 → count ≤ 64 },
 }

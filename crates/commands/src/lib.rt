@@ -2,7 +2,7 @@
 // command alarms they are of no account, and the caller hands back the copy from the start.
 #![tactic(auto)]
 
-ghost use Rattle.std.specs.Prelude.{◌≡◌, ◌<◌};
+ghost use Rattle.std.specs.Prelude.{◌≡◌};
 ghost use Rattle.commands.specs.Execution.{action_end, exec_of};
 ghost use Rattle.commands.specs.Goals.{Aims, Attained, AttainedBy, Uniform, given_as, target_at};
 ghost use Rattle.fetches.specs.Answers.{FetchedFrom};
@@ -13,7 +13,7 @@ ghost use Rattle.machine.specs.Map.{view_by};
 ghost use Rattle.machine.specs.Operands.{operands_of};
 ghost use Rattle.machine.specs.Words.{length_of};
 ghost use Rattle.results.specs.Ends.{end_in, out_as};
-ghost use Rattle.rules.specs.Rules.{rules_in, table_of};
+ghost use Rattle.rules.specs.Rules.{rules_in};
 ghost use Rattle.allforms.specs.Answers.{KeptUnsure};
 ghost use Rattle.sure.specs.Answers.{ReachesAll, ReadyOf};
 
@@ -21,6 +21,7 @@ use actions::Action;
 use fetches::Start;
 use machine::{Alarm, Fault, IntegerResult, Map, RealAddress, Size, Target, VirtualAddress};
 use results::Out;
+use rules::{Rules, Table};
 use sure::Goes;
 
 // Where a result goes: to an address at which the place of a word was looked up for writing, as
@@ -114,17 +115,17 @@ fn take_words(
     status: u32,
     map: Map,
     start: Start,
-    rules: u32,
+    rules: Rules,
 ) -> Option<sure::Operands>
-    requires fits { Fits map mem.now × FetchedFrom (view_by status map mem.now) mem.now start × (rules < 65536) }
-    requires uniform { Uniform rules }
-    ensures value { ReadyOf (view_by status map mem.now) (rules_in rules)
+    requires fits { Fits map mem.now × FetchedFrom (view_by status map mem.now) mem.now start }
+    requires uniform { Uniform rules.number }
+    ensures value { ReadyOf (view_by status map mem.now) (rules_in rules.number)
         regs.old regs.new result }
     ensures reaches { ReachesAll 4 status map mem.now result }
     ensures kept { KeptUnsure regs.old regs.new result }
 {
     // The count is the highest digit.
-    if rules < 0x1000 {
+    if rules.number < 0x1000 {
         return None;
     }
     match rules::size_in(rules) {
@@ -141,12 +142,12 @@ fn take(
     status: u32,
     map: Map,
     start: Start,
-    rules: u32,
+    rules: Rules,
 ) -> Result<Given, Fault>
-    requires fits { Fits map mem.now × FetchedFrom (view_by status map mem.now) mem.now start × (rules < 65536) }
-    requires uniform { Uniform rules }
+    requires fits { Fits map mem.now × FetchedFrom (view_by status map mem.now) mem.now start }
+    requires uniform { Uniform rules.number }
     ensures value { given_as result regs.new
-        ≡ operands_of (view_by status map mem.now) (rules_in rules) regs.old }
+        ≡ operands_of (view_by status map mem.now) (rules_in rules.number) regs.old }
     ensures attained { AttainedBy status map mem.now result }
 {
     if let Some(o) = take_words(mem, regs, status, map, start, rules) {
@@ -170,9 +171,9 @@ pub fn command(
     regs: &mut [u32; 16],
     status: u32,
     map: Map,
-    table: &[u16; 166],
+    table: &Table,
 ) -> Result<Out, Fault>
-    requires { Fits map mem.old × (table.now ≡ table_of) }
+    requires { Fits map mem.old }
     ensures { out_as result regs.new mem.new
         ≡ exec_of status map regs.old mem.old }
 {

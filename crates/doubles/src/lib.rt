@@ -77,9 +77,9 @@ pub fn store(
             Ok(())
         }
         None => {
-            let mut bytes = [0u8; 60];
+            let mut bytes = [0u8; 8];
             lay(&mut bytes, 0, bits);
-            stores::store_each(mem, status, map, x, &bytes, 8)
+            stores::store_each(mem, status, map, x, &bytes)
         }
     }
 }

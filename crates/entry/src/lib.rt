@@ -6,7 +6,7 @@ ghost use Rattle.entry.specs.Replies.{Blocks, ResumesInKernelMode, alarmed_by, c
 ghost use Rattle.entry.specs.Replies.{stepped};
 ghost use Rattle.machine.specs.Alarms.{alarm_number};
 ghost use Rattle.machine.specs.State.{desk_with, without_level};
-ghost use Rattle.machine.specs.Steps.{enters, resume as resumeOf, stop as stopOf};
+ghost use Rattle.machine.specs.Steps.{enters, resume as resume_of, stop as stop_of};
 ghost use Rattle.results.specs.Ends.{out_as};
 
 use machine::{Alarm, Desk, Fault, Map, Mark, RealAddress, StepEvent, StepReply};
@@ -14,7 +14,7 @@ use results::Out;
 
 // It stops with a number, and all else is as before the command.
 fn stop(d: Desk, n: u32) -> StepReply
-    ensures { result ≡ reply_of (stopOf n d) }
+    ensures { result ≡ reply_of (stop_of n d) }
 {
     let registers = d.registers;
     let desk = state::with(d, registers, d.status, d.pending, Mark::Stopped(n));
@@ -26,7 +26,7 @@ fn stop(d: Desk, n: u32) -> StepReply
 
 // With the number of an alarm.
 fn stop_for(d: Desk, a: Alarm) -> StepReply
-    ensures { result ≡ reply_of (stopOf (alarm_number a) d) }
+    ensures { result ≡ reply_of (stop_of (alarm_number a) d) }
 {
     stop(d, a.number())
 }
@@ -67,7 +67,7 @@ fn enter(
 // RESUME from the control block at an address; a stop with 14 where that or the map does not fit,
 // or the status is no valid user status.
 fn resume(d: Desk, mem: &[u8], a: RealAddress) -> StepReply
-    ensures { result ≡ reply_of (resumeOf d mem.now a) }
+    ensures { result ≡ reply_of (resume_of d mem.now a) }
 {
     let n = mem.len();
     let fits = checks::block_fits(a, machine::CONTROL_BLOCK_BYTES, n);

@@ -1,5 +1,3 @@
-// The fields of an operand.
-
 ghost use Rattle.std.specs.Prelude.{◌<◌};
 
 // The fields of an operand: its form, its register pair and its word.
@@ -9,6 +7,6 @@ pub struct Fields {
     pub x: u32,
     pub y: u32,
     pub z: u32,
-    ghost x_small: { x < 16 },
-    ghost y_small: { y < 16 },
+    pub ghost x_small: { x < 16 },
+    pub ghost y_small: { y < 16 },
 }

@@ -19,7 +19,7 @@ ghost use Rattle.machine.specs.Map.{read_bytes, view_by};
 ghost use Rattle.machine.specs.Operands.{at};
 ghost use Rattle.machine.specs.Words.{bytes_of, kind_length, pick};
 ghost use Rattle.results.specs.Ends.{end_in, out_as};
-ghost use Rattle.rules.specs.Rules.{roles_in, table_of};
+ghost use Rattle.rules.specs.Rules.{roles_in};
 ghost use Rattle.stores.specs.Answers.{stored_as, stored_in};
 
 use fetches::{Fields, Start};
@@ -28,6 +28,7 @@ use machine::{
     Alarm, Arithmetic, Fault, FloatResult, Kind, Map, Role, Size, Target, VirtualAddress,
 };
 use results::Out;
+use rules::{Rules, Table};
 
 // What one operand gives: its bits, and where a result goes.
 #[derive(Clone, Copy)]
@@ -65,7 +66,7 @@ fn is_excluded(kind: Kind, fields: Fields) -> bool
     }
 }
 
-// The operand whose six bytes begin at R15, of the command that starts there.
+// The operand whose six bytes begin at R15, of the command at `start`.
 fn operand(
     mem: &[u8],
     regs: &mut [u32; 16],
@@ -219,11 +220,11 @@ fn take_all(
     map: Map,
     start: Start,
     kind: Kind,
-    rules: u32,
+    rules: Rules,
 ) -> Result<Operands, Fault>
-    requires { Fits map mem.now × FetchedFrom (view_by status map mem.now) mem.now start × (rules < 65536) }
+    requires { Fits map mem.now × FetchedFrom (view_by status map mem.now) mem.now start }
     ensures value { operands_as result regs.new
-        ≡ float_operands_of (view_by status map mem.now) kind (roles_in rules) regs.old }
+        ≡ float_operands_of (view_by status map mem.now) kind (roles_in rules.number) regs.old }
     ensures small { SmallOperands result }
 {
     let mut taken = Operands {
@@ -241,7 +242,7 @@ fn take_all(
             second: chosen(place, 2, t.bits, taken.second),
             target: t.target,
         };
-        rest = rest / 16;
+        rest = rules::rest_of(rest);
     }
     Ok(taken)
 }
@@ -336,19 +337,19 @@ fn put(
 
 // ---- The command
 
-// The floating command of byte b that starts there, by the lent table of rules; R15 is past the byte.
+// The floating command of byte b at `start`, by the lent table of rules; R15 is past the byte.
 // Where it alarms the registers are of no account.
 pub fn command(
     mem: &mut [u8],
     regs: &mut [u32; 16],
     status: u32,
     map: Map,
-    table: &[u16; 166],
+    table: &Table,
     start: Start,
     b: u32,
 ) -> Result<Out, Fault>
     requires { Fits map mem.old × FetchedFrom (view_by status map mem.old) mem.old start
-        × (table.now ≡ table_of) × (0x80 ≤ b) × (b < 256) }
+        × (0x80 ≤ b) × (b < 256) }
     ensures { out_as result regs.new mem.new
         ≡ end_in status map mem.old (λ v. float_command b v regs.old) }
 {

@@ -4,7 +4,7 @@
 ghost use Rattle.std.specs.Prelude.{◌≡◌, ◌^◌, ◌≤◌};
 ghost use Rattle.levels.specs.Due.{interrupt_of};
 ghost use Rattle.machine.specs.State.{with_level, without_level};
-ghost use Rattle.machine.specs.Steps.{due as dueOf};
+ghost use Rattle.machine.specs.Steps.{due as due_of};
 
 // The pending set with a level, which is at most 15.
 pub fn with_level(pending: u16, level: u32) -> u16
@@ -29,7 +29,7 @@ pub fn without_level(pending: u16, level: u32) -> u16
 
 // The highest pending level above the status level; 0 for none.
 fn due(pending: u16, level: u32) -> u32
-    ensures value { result ≡ dueOf 15 pending level }
+    ensures value { result ≡ due_of 15 pending level }
     ensures small { result ≤ 15 }
 {
     for k in (1..16).rev() {

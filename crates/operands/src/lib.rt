@@ -16,6 +16,7 @@ ghost use Rattle.rules.specs.Rules.{rules_in};
 use fetches::Start;
 use forms::Location;
 use machine::{Fault, Map, Role, Size, Target, VirtualAddress};
+use rules::Rules;
 
 // What one operand gives: a number, and where a result goes.
 #[derive(Clone, Copy)]
@@ -33,7 +34,7 @@ pub struct Operands {
     pub target: Target,
 }
 
-// The operand whose six bytes begin at R15, of the command that starts there.
+// The operand whose six bytes begin at R15, of the command at `start`.
 fn operand(
     mem: &[u8],
     regs: &mut [u32; 16],
@@ -176,11 +177,11 @@ pub fn take_all(
     status: u32,
     map: Map,
     start: Start,
-    rules: u32,
+    rules: Rules,
 ) -> Result<Operands, Fault>
-    requires { Fits map mem.now × FetchedFrom (view_by status map mem.now) mem.now start × (rules < 65536) }
+    requires { Fits map mem.now × FetchedFrom (view_by status map mem.now) mem.now start }
     ensures value { operands_as result regs.new
-        ≡ operands_of (view_by status map mem.now) (rules_in rules) regs.old }
+        ≡ operands_of (view_by status map mem.now) (rules_in rules.number) regs.old }
     ensures small { SmallOperands result }
 {
     let mut taken = Operands {
@@ -199,7 +200,7 @@ pub fn take_all(
             second: chosen(place, 2, t.number, taken.second),
             target: t.target,
         };
-        rest = rest / 16;
+        rest = rules::rest_of(rest);
     }
     Ok(taken)
 }

@@ -1,6 +1,6 @@
-// The quick way: the command at R15, if it surely ends quietly. Its operands surely give no alarm,
-// every place that it uses is found before anything but R15 changes, and then nothing can fail. Where
-// it is not sure, R15 is put back, and nothing has changed.
+// The quick way: the command at R15, if it surely ends quietly: its new status. Its operands surely
+// give no alarm, every place that it uses is found before anything but R15 changes, and then nothing
+// can fail. Where it is not sure, None: R15 is put back, and nothing has changed.
 #![tactic(auto)]
 
 ghost use Rattle.std.specs.Prelude.{◌≡◌, ◌%◌, ◌<◌};
@@ -15,16 +15,15 @@ ghost use Rattle.machine.specs.Code.{known};
 ghost use Rattle.machine.specs.Words.{length_of, size_at};
 ghost use Rattle.quick.specs.Quietly.{CarriesOut, Ends, Finishes, Quietly};
 ghost use Rattle.results.specs.Ends.{end_in};
-ghost use Rattle.rules.specs.Rules.{AllOf, known_rules, rules_in, size_in, size_of, table_of};
+ghost use Rattle.rules.specs.Rules.{AllOf, known_rules, rules_in, size_in, size_of};
 ghost use Rattle.sure.specs.Answers.{Reaches, target_of};
 
 use actions::Action;
 use effects::NarrowEffect;
 use fetches::Start;
 use machine::{Access, IntegerResult, Map, Size, VirtualAddress};
+use rules::{Rules, Table};
 use sure::Goes;
-
-// Every answer is the new status of a command that is done, or None where it is not sure to end so.
 
 // ---- The writes
 
@@ -124,8 +123,8 @@ fn finish(
 
 // ---- The command
 
-// The command on words, the jump, CALL or RET of byte b that starts there, by its operand rules; R15
-// is past the byte. Where it is unsure, R15 alone has changed.
+// The command on words, the jump, CALL or RET of byte b at `start`, by its operand rules; R15 is past
+// the byte. Where it is unsure, R15 alone has changed.
 fn carry_out_words(
     mem: &mut [u8],
     regs: &mut [u32; 16],
@@ -133,11 +132,11 @@ fn carry_out_words(
     map: Map,
     start: Start,
     b: u32,
-    rules: u32,
+    rules: Rules,
 ) -> Option<u32>
-    requires fits { Fits map mem.old × FetchedFrom (view_by status map mem.old) mem.old start × (rules < 65536) }
-    requires all_of { AllOf Size.W (rules_in rules) }
-    ensures { CarriesOut status map b (rules_in rules) regs.old mem.old
+    requires fits { Fits map mem.old × FetchedFrom (view_by status map mem.old) mem.old start }
+    requires all_of { AllOf Size.W (rules_in rules.number) }
+    ensures { CarriesOut status map b (rules_in rules.number) regs.old mem.old
         regs.new mem.new result }
 {
     let o = sure::take_all(mem, regs, status, map, start, Size::W, rules)?;
@@ -153,11 +152,12 @@ fn carry_out_narrow(
     map: Map,
     start: Start,
     b: u32,
-    rules: u32,
+    rules: Rules,
 ) -> Option<u32>
-    requires fits { Fits map mem.old × FetchedFrom (view_by status map mem.old) mem.old start × (rules < 65536) }
-    requires rules_value { (size_in rules ≡ size_at (b % 4)) × AllOf (size_in rules) (rules_in rules) }
-    ensures { CarriesOut status map b (rules_in rules) regs.old mem.old
+    requires fits { Fits map mem.old × FetchedFrom (view_by status map mem.old) mem.old start }
+    requires rules_value { (size_in rules.number ≡ size_at (b % 4))
+        × AllOf (size_in rules.number) (rules_in rules.number) }
+    ensures { CarriesOut status map b (rules_in rules.number) regs.old mem.old
         regs.new mem.new result }
 {
     let size = rules::size_in(rules);
@@ -177,12 +177,12 @@ fn carry_out(
     map: Map,
     start: Start,
     b: u32,
-    rules: u32,
+    rules: Rules,
 ) -> Option<u32>
-    requires fits { Fits map mem.old × FetchedFrom (view_by status map mem.old) mem.old start × (rules < 65536) }
-    requires b_bound { (b < 256) × (rules_in rules ≡ known_rules (known b))
-        × (size_in rules ≡ size_of (known_rules (known b))) }
-    ensures { CarriesOut status map b (rules_in rules) regs.old mem.old
+    requires fits { Fits map mem.old × FetchedFrom (view_by status map mem.old) mem.old start }
+    requires b_bound { (b < 256) × (rules_in rules.number ≡ known_rules (known b))
+        × (size_in rules.number ≡ size_of (known_rules (known b))) }
+    ensures { CarriesOut status map b (rules_in rules.number) regs.old mem.old
         regs.new mem.new result }
 {
     match rules::size_in(rules) {
@@ -202,9 +202,9 @@ pub fn command(
     regs: &mut [u32; 16],
     status: u32,
     map: Map,
-    table: &[u16; 166],
+    table: &Table,
 ) -> Option<u32>
-    requires { Fits map mem.old × (table.now ≡ table_of) }
+    requires { Fits map mem.old }
     ensures { Quietly status map regs.old mem.old
         regs.new mem.new result }
 {

@@ -2,13 +2,16 @@
 // needs.
 #![tactic(auto)]
 
-ghost use Rattle.std.specs.Prelude.{◌≡◌, ◌<◌, ◌≤◌};
+ghost use Rattle.std.specs.Prelude.{◌≡◌, ◌/◌, ◌<◌, ◌≤◌};
 ghost use Rattle.machine.specs.Code.{known, read_by, written_to};
 ghost use Rattle.machine.specs.FloatCode.{known_float};
 ghost use Rattle.rules.specs.Rules.{addressed_by, count_in, forbidden_of, kind_in, known_kind, known_roles};
-ghost use Rattle.rules.specs.Rules.{known_rules, role_in, roles_in, rules_in, size_in, size_of, table_of};
+ghost use Rattle.rules.specs.Rules.{known_rules, role_in, roles_in, rules_in, size_in, size_of};
 
 use machine::{Kind, Role, Size};
+pub use types::{Rules, Table};
+
+mod types;
 
 // Four hexadecimal digits a row: the operand count, then a digit for the third, the second and the
 // first operand. A digit is 1 for B, 2 for H, 3 for W, and 0 for a value, 4 for an address, 8 for a
@@ -43,51 +46,60 @@ const RULES: [u16; 166] = [
 ];
 
 // The table, made once and lent to each command.
-pub fn table() -> [u16; 166]
-    ensures { result ≡ table_of }
-{
-    RULES
+pub fn table() -> Table {
+    Table { rows: RULES }
 }
 
 // The rules of a byte that is no floating command.
-pub fn rules_of(table: &[u16; 166], b: u32) -> u32
-    requires { (table.now ≡ table_of) × (b < 256) }
-    ensures rules { rules_in result ≡ known_rules (known b) }
-    ensures small { result < 65536 }
-    ensures size { size_in result ≡ size_of (known_rules (known b)) }
+pub fn rules_of(table: &Table, b: u32) -> Rules
+    requires { b < 256 }
+    ensures rules { rules_in result.number ≡ known_rules (known b) }
+    ensures size { size_in result.number ≡ size_of (known_rules (known b)) }
 {
-    if b < 0x80 {
-        return table[b as usize] as u32;
-    }
-    0
+    let number = if b < 0x80 {
+        table.rows[b as usize] as u32
+    } else {
+        0
+    };
+    Rules { number }
 }
 
 // The rules of a byte from 0x80 on: a floating command's, all of its kind.
-pub fn float_rules_of(table: &[u16; 166], b: u32) -> u32
-    requires { (table.now ≡ table_of) × (0x80 ≤ b) × (b < 256) }
-    ensures kind { kind_in result ≡ known_kind (known_float b) }
-    ensures roles { roles_in result ≡ known_roles (known_float b) }
-    ensures small { result < 65536 }
+pub fn float_rules_of(table: &Table, b: u32) -> Rules
+    requires { (0x80 ≤ b) × (b < 256) }
+    ensures kind { kind_in result.number ≡ known_kind (known_float b) }
+    ensures roles { roles_in result.number ≡ known_roles (known_float b) }
 {
-    if b < 0xA6 {
-        return table[b as usize] as u32;
-    }
-    0
+    let number = if b < 0xA6 {
+        table.rows[b as usize] as u32
+    } else {
+        0
+    };
+    Rules { number }
 }
 
 // The operand count of a row.
-pub fn count_in(rules: u32) -> u32
-    ensures { result ≡ count_in rules }
+pub fn count_in(rules: Rules) -> u32
+    ensures { result ≡ count_in rules.number }
 {
-    rules / 0x1000
+    rules.number / 0x1000
+}
+
+// The rules without the next operand's; the count is of no account then.
+pub fn rest_of(rules: Rules) -> Rules
+    ensures { result.number ≡ rules.number / 16 }
+{
+    Rules {
+        number: rules.number / 16,
+    }
 }
 
 // The size in the lowest digit: the next operand's. An arm for each number, of which the compiler
 // makes a table.
-pub fn size_in(rules: u32) -> Size
-    ensures { result ≡ size_in rules }
+pub fn size_in(rules: Rules) -> Size
+    ensures { result ≡ size_in rules.number }
 {
-    match rules % 4 {
+    match rules.number % 4 {
         0 => Size::W,
         1 => Size::B,
         2 => Size::H,
@@ -96,20 +108,20 @@ pub fn size_in(rules: u32) -> Size
 }
 
 // The kind in the lowest digit of a floating command's rules.
-pub fn kind_in(rules: u32) -> Kind
-    ensures { result ≡ kind_in rules }
+pub fn kind_in(rules: Rules) -> Kind
+    ensures { result ≡ kind_in rules.number }
 {
-    match rules % 4 {
+    match rules.number % 4 {
         2 => Kind::D,
         _ => Kind::F,
     }
 }
 
 // The role in the lowest digit: the next operand's.
-pub fn role_in(rules: u32) -> Role
-    ensures { result ≡ role_in rules }
+pub fn role_in(rules: Rules) -> Role
+    ensures { result ≡ role_in rules.number }
 {
-    match rules / 4 % 4 {
+    match rules.number / 4 % 4 {
         0 => Role::Value,
         1 => Role::Address,
         2 => Role::Destination,

@@ -6,8 +6,8 @@ use native.Mathlib.Nat.{add-zero, zero-add}
 use native.Mathlib.Numerals.{add-one}
 use native.Mathlib.Omega.{arith}
 use borrow.Author.Tests.{eq-eqb, ne_eqb}
-use lib.ListN.{length, set, take, length-append, length-set}
-use lib.Seq.{take_all, sets, set-set, set_comm, set-get_or, get_or-set_same}
+use lib.ListN.{length, set, length-append, length-set}
+use lib.Seq.{sets, set-set, set_comm, set-get_or, get_or-set_same}
 use Rattle.machine.specs.declared.Access.TheVariants.{Read}
 use Rattle.machine.specs.declared.Alarm.{Alarm}
 use Rattle.machine.specs.declared.Map.{Map}
@@ -229,7 +229,5 @@ module _ (r : Registers) where
   row_bytes = omega (arith, row_length, words_length (row_of r))
 
   -- sixty bytes that they fill
-  pub row_fills : (m : Memory) → length m ≡ 60 → take 60 (sets m 0 (bytes_of_words (row_of r))) ≡ bytes_of_words (row_of r)
-  row_fills m l =
-      rw (row_filled (row_of r) m (omega (arith, row_length, l)))
-      (take_all 60 (bytes_of_words (row_of r)) (omega (arith, row_bytes)))
+  pub row_fills : (m : Memory) → length m ≡ 60 → sets m 0 (bytes_of_words (row_of r)) ≡ bytes_of_words (row_of r)
+  row_fills m l = row_filled (row_of r) m (omega (arith, row_length, l))

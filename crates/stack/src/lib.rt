@@ -41,7 +41,7 @@ fn push_each(
 {
     let mut bytes = [0u8; 60];
     lay(&mut bytes, regs, 0);
-    stores::store_each(mem, status, map, x, &bytes, 60)
+    stores::store_each(mem, status, map, x, &bytes)
 }
 
 // The words of PUSHR to the addresses from x on.

@@ -16,6 +16,7 @@ ghost use Rattle.sure.specs.Answers.{SpotOf, TakenFrom, TakenOf, access_of, with
 
 use fetches::{Fields, Start};
 use machine::{Access, Map, RealAddress, Role, Size, VirtualAddress};
+use rules::Rules;
 
 // Where an operand is: its number; a register and what it holds; its address.
 #[derive(Clone, Copy)]
@@ -200,11 +201,11 @@ pub fn take_all(
     map: Map,
     start: Start,
     size: Size,
-    rules: u32,
+    rules: Rules,
 ) -> Option<Operands>
-    requires fits { Fits map mem.now × FetchedFrom (view_by status map mem.now) mem.now start × (rules < 65536) }
-    requires all_of { AllOf size (rules_in rules) }
-    ensures value { ReadyOf (view_by status map mem.now) (rules_in rules)
+    requires fits { Fits map mem.now × FetchedFrom (view_by status map mem.now) mem.now start }
+    requires all_of { AllOf size (rules_in rules.number) }
+    ensures value { ReadyOf (view_by status map mem.now) (rules_in rules.number)
         regs.old regs.new result }
     ensures reaches { ReachesAll (length_of size) status map mem.now result }
     ensures only { OnlyR15 regs.old regs.new }
@@ -214,7 +215,7 @@ pub fn take_all(
     for place in 1..rules::count_in(rules) + 1 {
         let taken = operand(mem, regs, status, map, start, size, rules::role_in(rest))?;
         all = with(all, place, taken);
-        rest = rest / 16;
+        rest = rules::rest_of(rest);
     }
     Some(all)
 }

@@ -2,7 +2,7 @@
 #![tactic(auto)]
 
 ghost use Rattle.std.specs.Prelude.{◌≡◌, ◌+◌, ◌%◌, ◌≤◌, ◌<◌, length, take, drop};
-ghost use Rattle.watch.specs.Addresses.{among as amongOf, SameSet, passes, with_bit, Covers};
+ghost use Rattle.watch.specs.Addresses.{among as among_of, SameSet, passes, with_bit, Covers};
 
 // Whether the filter lets an address pass.
 fn perhaps(filter: u64, r15: u32) -> bool
@@ -36,7 +36,7 @@ pub fn filter_of(addresses: &[u32]) -> u64
 // Whether an address is one of the four from place i on.
 fn among_four(addresses: &[u32], i: usize, r15: u32) -> bool
     requires { i + 4 ≤ length addresses.now }
-    ensures { result ≡ amongOf r15 (take 4 (drop i addresses.now)) }
+    ensures { result ≡ among_of r15 (take 4 (drop i addresses.now)) }
 {
     (addresses[i] == r15)
         | (addresses[i + 1] == r15)
@@ -47,7 +47,7 @@ fn among_four(addresses: &[u32], i: usize, r15: u32) -> bool
 // Whether an address is one of these sixteen.
 fn among_sixteen(addresses: &[u32], r15: u32) -> bool
     requires { length addresses.now ≡ 16 }
-    ensures { result ≡ amongOf r15 addresses.now }
+    ensures { result ≡ among_of r15 addresses.now }
 {
     among_four(addresses, 0, r15)
         | among_four(addresses, 4, r15)
@@ -58,7 +58,7 @@ fn among_sixteen(addresses: &[u32], r15: u32) -> bool
 // Whether an address is among these, which are looked at sixteen at a time.
 fn among(addresses: &[u32], r15: u32) -> bool
     requires { length addresses.now % 16 ≡ 0 }
-    ensures { result ≡ amongOf r15 addresses.now }
+    ensures { result ≡ among_of r15 addresses.now }
 {
     let mut found = false;
     for sixteen in addresses.chunks_exact(16) {
@@ -71,7 +71,7 @@ fn among(addresses: &[u32], r15: u32) -> bool
 pub fn met(addresses: &[u32], filter: u64, r15: u32) -> bool
     requires covers { Covers filter addresses.now }
     requires addresses_len { length addresses.now % 16 ≡ 0 }
-    ensures { result ≡ amongOf r15 addresses.now }
+    ensures { result ≡ among_of r15 addresses.now }
 {
     perhaps(filter, r15) && among(addresses, r15)
 }

@@ -4,4 +4,4 @@ use Rattle.sure.proofs.Remaining.{Midway}
 use Rattle.allforms.proofs.take_each.Given as goal
 
 abbrev pub invariant-loop-place : goal.invariant-loop-place
-invariant-loop-place l = Midway W l.status l.map l.mem l.rules l.initial.regs l.regs l.place l.rest l.all
+invariant-loop-place l = Midway W l.status l.map l.mem l.fn.rules.number l.initial.regs l.regs l.place l.rest.number l.all

@@ -20,7 +20,7 @@ returns-in_err-t-clause-value c =
 pub loop-place-preserved : goal.loop-place-preserved
 unfolding with_taken
 loop-place-preserved c = (
-  rw (c.chosen.ensures, c.chosen-in-loop-place.ensures)
+  rw (c.chosen.ensures, c.chosen-in-loop-place.ensures, c.rest_of-rest.ensures)
       (next-left _ _ _ _ _ _ _ c.loop-place.invariant.0 c.loop-place-test.true _
       c.role_in-role.ensures _ c.in_ok-location.ensures.location _ c.in_ok-t.ensures.value),
   c.in_ok-t.ensures.small,

@@ -13,7 +13,7 @@ invariant-loop-place l =
     l.kind
     l.place
     l.place-end
-    l.rest
+    l.rest.number
     (record { first = l.taken.first; second = l.taken.second; target = l.taken.target; registers = l.regs })
-    (float_operands_of (view_by l.status l.map l.mem) l.kind (roles_in l.rules) l.initial.regs)
+    (float_operands_of (view_by l.status l.map l.mem) l.kind (roles_in l.fn.rules.number) l.initial.regs)
     × SmallTarget l.taken.target

@@ -25,7 +25,7 @@ pub loop-place-preserved : goal.loop-place-preserved
 unfolding with_taken
 loop-place-preserved c = record {
   left =
-      rw (c.chosen.ensures, c.chosen-in-loop-place.ensures)
+      rw (c.chosen.ensures, c.chosen-in-loop-place.ensures, c.rest_of-rest.ensures)
       (next-left _ _ _ _ _ _ c.loop-place.invariant.left (omega arith) _ c.size_in-size.ensures _ c.role_in-role.ensures
       _ c.in_ok-location.ensures.location _ c.in_ok-t.ensures.value);
   small = c.in_ok-t.ensures.small;

@@ -12,9 +12,9 @@ invariant-loop-place l = record {
       Left
       (view_by l.status l.map l.mem)
       l.place
-      (count_in l.rules)
-      l.rest
+      (count_in l.fn.rules.number)
+      l.rest.number
       (record { first = l.taken.first; second = l.taken.second; target = l.taken.target; registers = l.regs })
-      (operands_of (view_by l.status l.map l.mem) (rules_in l.rules) l.initial.regs);
+      (operands_of (view_by l.status l.map l.mem) (rules_in l.fn.rules.number) l.initial.regs);
   small : SmallTarget l.taken.target;
 }

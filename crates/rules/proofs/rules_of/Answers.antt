@@ -2,11 +2,8 @@
 -- table is unknown.
 use Prim.Native.Nat.{ℕ, ◌≤◌, ◌<◌}
 use mathlib.Core.Path.{◌≡◌, refl, ap}
-use mathlib.Core.Bool.{true}
 use mathlib.Core.List.{[]}
 use native.Mathlib.Omega.{arith}
-use borrow.Author.Tests.{ltb-true}
-use lib.Dec.{ltb}
 use lib.ListN.{get_or}
 use Rattle.machine.specs.Code.{table, known_in, known}
 use Rattle.machine.specs.FloatCode.{float_table, known_float_in, known_float}
@@ -14,10 +11,7 @@ use Rattle.rules.specs.Rules.{size_in, rules_from, rules_in, known_rules, number
 use Rattle.rules.specs.Rules.{size_of}
 use Rattle.machine.proofs.CommandBytes.{same}
 use Rattle.rules.proofs.rules_of.Goals as goal
-
-below : (b : ℕ) → b < 0x80 → get_or table_of b 0 < 65536
-unfolding table known_in known float_table known_float_in known_float numbers_from float_numbers_from table_of
-below b h = ltb-true _ _ (same (λ k. ltb (get_or table_of k 0) 65536) (λ k. true) 0x80 0 refl b (omega arith) h)
+use Rattle.rules.proofs.rules_of.Goals.{then-b-lt128, else-b-lt128}
 
 own_rules : (b : ℕ) → b < 0x80 → rules_in (get_or table_of b 0) ≡ known_rules (known b)
 unfolding table known_in known float_table known_float_in known_float numbers_from float_numbers_from table_of rules_from
@@ -31,17 +25,15 @@ past : (b : ℕ) → 0x80 ≤ b → b < 256 → [] ≡ known_rules (known b)
 unfolding table known_in known
 past b l h = same (λ k. []) (λ k. known_rules (known k)) 0x80 0x80 refl b l h
 
-pub returns-then-b-lt128 : goal.returns-then-b-lt128
-returns-then-b-lt128 c = let low = c.if-b-lt128.true in record {
-  rules = rw c.requires.0 (own_rules _ low);
-  small = rw c.requires.0 (below _ low);
-  size = rw c.requires.0 (sizes _ low);
-}
-
-pub returns : goal.returns
+pub returns-clause-rules : goal.returns-clause-rules
 unfolding rules_from
-returns c = let none = past _ c.if-b-lt128.false c.requires.1 in record {
-  rules = none;
-  small = omega arith;
-  size = ap size_of none;
-}
+returns-clause-rules c = elim c.if-b-lt128.branch [
+  | then-b-lt128 w ↦ rw (w.number-is, c.args.table.now.right) (own_rules _ w.if-b-lt128.true)
+  | else-b-lt128 w ↦ rw w.number-is (past _ w.if-b-lt128.false c.requires)
+]
+
+pub returns-clause-size : goal.returns-clause-size
+returns-clause-size c = elim c.if-b-lt128.branch [
+  | then-b-lt128 w ↦ rw (w.number-is, c.args.table.now.right) (sizes _ w.if-b-lt128.true)
+  | else-b-lt128 w ↦ rw w.number-is (ap size_of (past _ w.if-b-lt128.false c.requires))
+]

@@ -6,6 +6,6 @@ use Rattle.machine.specs.FloatCode.{float_table, known_float_in, known_float}
 use Rattle.rules.specs.Rules.{numbers_from, float_numbers_from, table_of}
 use Rattle.rules.proofs.table.Goals as goal
 
-pub returns : goal.returns
+pub invariant_of-result : goal.invariant_of-result
 unfolding table known_in known float_table known_float_in known_float numbers_from float_numbers_from table_of
-returns c = refl
+invariant_of-result c = record { right = refl }

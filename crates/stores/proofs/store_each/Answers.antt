@@ -14,7 +14,7 @@ returns-in_err-places c =
     let p = err_from_is_err_and c.from_residual.result c.from_residual.ensures.1 in
     rw (p.1, p.2)
     (rw (one_stopped (view_by a.status a.map a.mem.now) a.mem.now a.x.0 turn.places
-    a.bytes.now a.n turn.i _ _ _ c.loop-i-test.true (omega arith) turn.invariant.1
+    a.bytes.now turn.i _ _ _ c.loop-i-test.true turn.invariant.1
     c.plus.ensures (look_miss _ _ _ _ _ _ _ c.in_err-places.was c.look.ensures)))
 
 pub loop-i-preserved : goal.loop-i-preserved
@@ -36,11 +36,11 @@ bounds-mem-place c =
 
 pub loop-j-preserved : goal.loop-j-preserved
 loop-j-preserved c =
-    sym (one_written _ _ _ _ c.loop-j.j c.loop-j-test.true) ∙ c.loop-j.invariant
+    sym (one_written _ _ _ c.loop-j.j c.loop-j-test.true) ∙ c.loop-j.invariant
 
 pub returns : goal.returns
 returns c =
     let a = c.args in
     rw (all_located (view_by a.status a.map a.mem.now) a.mem.now a.x.0 c.loop-i.places
-    a.bytes.now a.n (omega arith) (λ k h. c.loop-i.invariant.1 k (omega arith)))
-    (ap wrote (sym (all_written _ _ _ _ _ c.loop-j-test.false) ∙ c.loop-j.invariant))
+    a.bytes.now (λ k h. c.loop-i.invariant.1 k (omega arith)))
+    (ap wrote (sym (all_written _ _ _ _ c.loop-j-test.false) ∙ c.loop-j.invariant))

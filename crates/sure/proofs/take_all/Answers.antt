@@ -11,7 +11,7 @@ returns-in_err-taken-clause-only c = one_more c.loop-place.invariant.only c.oper
 pub loop-place-preserved : goal.loop-place-preserved
 loop-place-preserved c = record {
   midway =
-      rw c.with-all.ensures
+      rw (c.with-all.ensures, c.rest_of-rest.ensures)
       (one-taken c.loop-place.invariant.midway (omega arith) _ c.role_in.ensures _ c.in_ok-taken.taken
       c.in_ok-taken.ensures.value c.in_ok-taken.ensures.reaches);
   only = one_more c.loop-place.invariant.only c.operand.ensures.only;

@@ -6,6 +6,6 @@ use Rattle.sure.proofs.take_all.Given as goal
 
 abbrev pub invariant-loop-place : goal.invariant-loop-place
 invariant-loop-place l = record {
-  midway : Midway l.size l.status l.map l.mem l.rules l.initial.regs l.regs l.place l.rest l.all;
+  midway : Midway l.size l.status l.map l.mem l.fn.rules.number l.initial.regs l.regs l.place l.rest.number l.all;
   only : OnlyR15 l.initial.regs l.regs;
 }
