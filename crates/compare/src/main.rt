@@ -41,6 +41,14 @@ impl Read for Input {
     fn read(&mut self, buf: &mut [u8]) -> Result<usize> {
         Ok(io::read_full(STDIN_FILENO, buf))
     }
+
+    // By one read: it gives less only where the input ends.
+    fn read_exact(&mut self, buf: &mut [u8]) -> Result<()> {
+        if self.read(buf)? < buf.len() {
+            return Err(Error::from(ErrorKind::UnexpectedEof));
+        }
+        Ok(())
+    }
 }
 
 // Standard output. What cannot be written is dropped.
