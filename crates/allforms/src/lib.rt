@@ -105,8 +105,8 @@ fn take_each(
 {
     let mut all = Operands::NONE;
     let mut rest = rules;
-    for place in 1..rules::count_in(rules) + 1 {
-        let taken = operand(mem, regs, status, map, start, rules::role_in(rest))?;
+    for place in 1..rules::count_in(rules.number) + 1 {
+        let taken = operand(mem, regs, status, map, start, rules::role_in(rest.number))?;
         all = sure::with(all, place, taken);
         rest = rules::rest_of(rest);
     }

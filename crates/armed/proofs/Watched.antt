@@ -1,9 +1,10 @@
 -- Steps that watch the same addresses, and a run with armed addresses by what refuses it.
 use Rattle.std.specs.Prelude.{Option, Some, None, Ok, Err}
-use Prim.Native.Nat.{ℕ}
+use Prim.Native.Nat.{ℕ, ◌<◌}
 use mathlib.Core.Path.{◌≡◌, refl, ap, fun_ext}
 use mathlib.Core.Bool.{Bool, true, false}
 use mathlib.Core.List.{List}
+use borrow.Author.Tests.{lt-leb}
 use lib.Dec.{leb}
 use lib.ListN.{length, take}
 use Rattle.machine.specs.declared.Desk.{Desk}
@@ -46,6 +47,11 @@ module _ (a : Armed) (n : ℕ) (d : Desk) (m : Memory) where
       → ran_to (Err k) 0 d m ≡ run_armed_of a n d m
   unfolding run_armed_of
   refused_armed k e = refused_unless _ _ d m _ k e
+
+  pub too_many_armed : step_refusal d (length m) ≡ Ok tt → 64 < a.length
+      → ran_to (Err Breakpoints) 0 d m ≡ run_armed_of a n d m
+  unfolding run_armed_of run_to_unless
+  too_many_armed e h = rw (e, lt-leb a.length 64 h)
 
   pub accepted_armed : Ok tt ≡ run_to_refusal (step_refusal d (length m)) (leb a.length most)
       → steps_to (among_at (take a.count a.addresses)) n 0 d m ≡ run_armed_of a n d m

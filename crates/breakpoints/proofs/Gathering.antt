@@ -11,13 +11,13 @@ use lib.ListN.{length, take, length-set, replicate, length-replicate}
 use lib.Seq.{take_all, take-suc-set}
 use borrow.Author.Tests.{leb-true, leb-false}
 use Rattle.machine.specs.Words.{pick}
-use Rattle.breakpoints.specs.declared.armed.Armed.{Armed}
+use Rattle.breakpoints.specs.declared.armed.Addresses.{Addresses}
 use Rattle.breakpoints.specs.declared.Breakpoint.{Breakpoint}
-use Rattle.breakpoints.specs.Gathered.{Added, added, armed_addresses, Gathers, with_address, with_one}
+use Rattle.breakpoints.specs.Gathered.{armed_addresses, with_address, with_one}
 use Rattle.breakpoints.specs.Breakpoints.{most}
 
 -- the breakpoints of ps are gathered in a, but for those of `left`, of which n are still looked at
-pub record SoFar (ps : List Breakpoint) (n : ℕ) (left : List Breakpoint) (a : Added) : Type 0 where
+pub record SoFar (ps : List Breakpoint) (n : ℕ) (left : List Breakpoint) (a : Addresses) : Type 0 where
   pub places : length a.addresses ≡ most
   pub room : a.count + n ≤ most
   pub whole : length ps ≤ most → take a.count a.addresses ++ armed_addresses (take n left) ≡ armed_addresses ps
@@ -30,7 +30,7 @@ begins ps = record {
   whole = λ few. rw (take_all most ps few);
 }
 
-module _ (ps : List Breakpoint) (n : ℕ) (left : List Breakpoint) (p : Breakpoint) (a : Added)
+module _ (ps : List Breakpoint) (n : ℕ) (left : List Breakpoint) (p : Breakpoint) (a : Addresses)
     (s : SoFar ps (suc n) (p ∷ left) a) where
   -- an armed one's address has room
   either : (on full : Bool) → p.armed ≡ on → leb most a.count ≡ full
@@ -60,10 +60,7 @@ none_looked_at (suc n) [] none = refl
 none_looked_at (suc n) (p ∷ left) none = let e : length (p ∷ left) ≡ 0 = none (zero-lt-suc n) in absurd (omega arith)
 
 -- no breakpoint is looked at any more
-pub ends : (ps : List Breakpoint) (n : ℕ) (left : List Breakpoint) (a : Armed) → a.length ≡ length ps
-    → (0 < n → length left ≡ 0) → SoFar ps n left (added a) → Gathers a ps
+pub ends : (ps : List Breakpoint) (n : ℕ) (left : List Breakpoint) (a : Addresses) → (0 < n → length left ≡ 0)
+    → SoFar ps n left a → length ps ≤ most → (a.count ≤ most) × (take a.count a.addresses ≡ armed_addresses ps)
 unfolding armed_addresses
-ends ps n left a long none s = record {
-  long = long;
-  few = λ few. (omega (arith, s.room), rw (none_looked_at n left none, append-nil) at (s.whole few));
-}
+ends ps n left a none s few = (omega (arith, s.room), rw (none_looked_at n left none, append-nil) at (s.whole few))

@@ -3,6 +3,7 @@
 -- how many are looked at
 pub mod Looked
 -- which one holds
+pub mod Search
 pub mod FirstArmed
 -- the addresses of the armed ones
 pub mod Gathering

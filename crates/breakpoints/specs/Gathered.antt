@@ -7,6 +7,7 @@ use Rattle.machine.specs.Words.{pick, Memory}
 use Rattle.machine.specs.State.{reg}
 use Rattle.machine.specs.Calls.{Answer, step_refusal}
 use Rattle.watch.specs.Addresses.{among}
+use Rattle.breakpoints.specs.declared.armed.Addresses.{Addresses}
 use Rattle.breakpoints.specs.declared.armed.Armed.{Armed}
 use Rattle.breakpoints.specs.declared.Breakpoint.{Breakpoint}
 use Rattle.breakpoints.specs.declared.RunToRefusal.{RunToRefusal}
@@ -25,20 +26,12 @@ pub record Gathers (a : Armed) (ps : List Breakpoint) : Type 0 where
   pub long : a.length ≡ length ps
   pub few : length ps ≤ most → (a.count ≤ most) × (take a.count a.addresses ≡ armed_addresses ps)
 
--- an array of addresses, and how many of them count
-pub record Added : Type 0 where
-  pub addresses : List ℕ
-  pub count : ℕ
-
-abbrev pub added : Armed → Added
-added a = record { addresses = a.addresses; count = a.count }
-
 -- with one address more
-abbrev pub with_address : Added → ℕ → Added
+abbrev pub with_address : Addresses → ℕ → Addresses
 with_address a address = record { addresses = set a.addresses a.count address; count = a.count + 1 }
 
 -- one more breakpoint is gathered, where there is room for its address
-unfoldable pub with_one : Added → Breakpoint → Added
+unfoldable pub with_one : Addresses → Breakpoint → Addresses
 with_one a p = pick p.armed (pick (leb most a.count) a (with_address a p.r15.0)) a
 
 -- ---- A run whose breakpoints are plain data: where it was held is known, by which one is not

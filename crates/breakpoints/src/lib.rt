@@ -1,14 +1,14 @@
 // Breakpoints: a lent list of them, each an R15 value and whether it is armed.
 #![tactic(auto)]
 
-ghost use Rattle.std.specs.Prelude.{◌≡◌, take, position};
-ghost use Rattle.breakpoints.specs.Breakpoints.{most, holds_at, first_armed};
+ghost use Rattle.std.specs.Prelude.{◌≡◌, take};
+ghost use Rattle.breakpoints.specs.Breakpoints.{most, first_armed};
 ghost use Rattle.breakpoints.specs.RunTo.{run_to_answer_number, run_to_refusal_number};
-ghost use Rattle.breakpoints.specs.Gathered.{added, Gathers, placed_reply, with_one};
+ghost use Rattle.breakpoints.specs.Gathered.{Gathers, placed_reply, with_one};
 ghost use Rattle.breakpoints.specs.declared.RunToRefusal.TheVariants.{Run};
 ghost use Rattle.machine.specs.State.{reg};
 
-pub use armed::Armed;
+pub use armed::{Addresses, Armed};
 use machine::{Desk, Refusal, VirtualAddress};
 
 mod armed;
@@ -79,23 +79,18 @@ pub fn run_to_answer_number(answer: Result<Option<usize>, RunToRefusal>) -> u64
 pub fn first_armed(points: &[Breakpoint], r15: u32) -> Option<usize>
     ensures { result ≡ first_armed r15 (take most points.now) }
 {
-    position(points, r15)
-}
-
-// The same in the words of the iterators' contracts.
-fn position(points: &[Breakpoint], r15: u32) -> Option<usize>
-    ensures { result ≡ position (holds_at r15) (take most points.now) }
-{
-    points
-        .iter()
-        .take(MOST)
-        .position(|p| p.armed && p.r15.0 == r15)
+    for i in 0..MOST.min(points.len()) {
+        let p = points[i];
+        if p.armed & (p.r15.0 == r15) {
+            return Some(i);
+        }
+    }
+    None
 }
 
 // The address of an armed breakpoint is added, where there is room.
-pub fn with_one(mut a: Armed, p: Breakpoint) -> Armed
-    ensures added { added result ≡ with_one (added a) p }
-    ensures same_length { result.length ≡ a.length }
+pub fn with_one(mut a: Addresses, p: Breakpoint) -> Addresses
+    ensures { result ≡ with_one a p }
 {
     if p.armed && a.count < MOST {
         a.addresses[a.count] = p.r15.0;
@@ -108,15 +103,19 @@ pub fn with_one(mut a: Armed, p: Breakpoint) -> Armed
 pub fn gather(points: &[Breakpoint]) -> Armed
     ensures { Gathers result points.now }
 {
-    let mut a = Armed {
+    let mut a = Addresses {
         addresses: [0; MOST],
         count: 0,
-        length: points.len(),
     };
     for p in points.iter().take(MOST) {
         a = with_one(a, *p);
     }
-    a
+    let Addresses { addresses, count } = a;
+    Armed {
+        addresses,
+        count,
+        length: points.len(),
+    }
 }
 
 // ---- The place of a hold

@@ -14,11 +14,14 @@ use fields::Fields;
 // The bytes before the first case.
 pub const HEADER: usize = 24;
 
-// The number of cases that the bytes before the first case give, if they are such bytes.
-pub fn number_of_cases(header: &[u8; HEADER]) -> Option<u64> {
-    if !header.starts_with(b"MIDESK01") {
-        return None;
-    }
-    let n = Fields::new(&header[8..]).word();
-    Some(u64::from(n))
+// Whether these are the bytes before the first case.
+pub fn is_header(s: &[u8]) -> bool {
+    s.len() == HEADER && s.starts_with(b"MIDESK01")
+}
+
+// The number of cases that a header gives.
+pub fn number_of_cases(header: &[u8]) -> u64 {
+    let mut fields = Fields::new(header);
+    fields.part(8);
+    u64::from(fields.word())
 }

@@ -128,7 +128,7 @@ fn take_words(
     if rules.number < 0x1000 {
         return None;
     }
-    match rules::size_in(rules) {
+    match rules::size_in(rules.number) {
         Size::W => allforms::take_all(mem, regs, status, map, start, rules),
         _ => None,
     }

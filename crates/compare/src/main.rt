@@ -24,7 +24,7 @@ ghost use Rattle.std.specs.Prelude.{◌+◌, ◌≤◌};
 use play::Outcome;
 use std::fmt;
 use std::fmt::Write;
-use std::io::{Error, ErrorKind, Read, Result, copy, sink};
+use std::io::{Error, ErrorKind, Read, Result};
 
 const STDIN_FILENO: i32 = 0;
 
@@ -66,13 +66,22 @@ impl Write for Output {
 fn read_header(input: &mut impl Read) -> Option<u64> {
     let mut header = [0u8; cases::HEADER];
     input.read_exact(&mut header).ok()?;
-    cases::number_of_cases(&header)
+    if !cases::is_header(&header) {
+        return None;
+    }
+    Some(cases::number_of_cases(&header))
 }
 
-// Reads past n bytes of the input. Fails where it ends before.
-fn skip(n: u64, input: &mut impl Read) -> Result<()> {
-    if copy(&mut input.by_ref().take(n), &mut sink())? < n {
-        return Err(Error::from(ErrorKind::UnexpectedEof));
+// Reads past n bytes of the input, through the buffer. Fails where it ends before.
+fn skip(n: usize, input: &mut impl Read, buffer: &mut [u8]) -> Result<()> {
+    let mut left = n;
+    while 0 < left {
+        let most = left.min(buffer.len());
+        let got = input.read(&mut buffer[..most])?;
+        if got == 0 {
+            return Err(Error::from(ErrorKind::UnexpectedEof));
+        }
+        left -= got;
     }
     Ok(())
 }
@@ -81,14 +90,14 @@ fn skip(n: u64, input: &mut impl Read) -> Result<()> {
 fn next_case(input: &mut impl Read, buffer: &mut [u8]) -> Result<Outcome> {
     let mut size = [0u8; 4];
     input.read_exact(&mut size)?;
-    let size = u32::from_be_bytes(size);
-    match buffer.get_mut(..size as usize) {
+    let size = u32::from_be_bytes(size) as usize;
+    match buffer.get_mut(..size) {
         Some(case) => {
             input.read_exact(case)?;
             Ok(play::play_case(case))
         }
         None => {
-            skip(u64::from(size), input)?;
+            skip(size, input, buffer)?;
             Ok(Outcome::LeftOut)
         }
     }
@@ -111,9 +120,9 @@ fn check_cases(out: &mut Output, input: &mut impl Read, all: u64) {
         }
     }
     let left_out = all - equal - differ;
-    let _ = writeln!(
+    let _ = write!(
         out,
-        "{equal} cases equal, {differ} differ, {left_out} left out"
+        "{equal} cases equal, {differ} differ, {left_out} left out\n"
     );
 }
 
@@ -123,7 +132,7 @@ fn main() {
     match read_header(input) {
         Some(all) => check_cases(out, input, all),
         None => {
-            let _ = writeln!(out, "the input holds no cases");
+            let _ = out.write_str("the input holds no cases\n");
         }
     }
 }

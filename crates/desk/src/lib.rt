@@ -80,7 +80,7 @@ pub fn run_to(d: Desk, mem: &mut [u8], n: u64, points: &[Breakpoint]) -> RunToRe
 }
 
 // An interrupt level is requested: any number may be given, 1 to 15 are levels.
-pub fn request(d: Desk, level: u32) -> Reply
+pub fn request(mut d: Desk, level: u32) -> Reply
     ensures { result ≡ request_of d level }
 {
     if !checks::state_valid(d.status, d.pending) {
@@ -95,11 +95,9 @@ pub fn request(d: Desk, level: u32) -> Reply
             desk: d,
         };
     }
+    d.pending = levels::with_level(d.pending, level);
     Reply {
         answer: Ok(()),
-        desk: Desk {
-            pending: levels::with_level(d.pending, level),
-            ..d
-        },
+        desk: d,
     }
 }

@@ -40,14 +40,15 @@ fn read_words(mem: &[u8], status: u32, map: Map, x: VirtualAddress) -> Result<u6
     Ok(joined(high, low))
 }
 
-// The value at an address.
+// The value at an address. `Ok(..?)` makes the rare call's answer anew, so that the other one stays in
+// registers.
 pub fn read(mem: &[u8], status: u32, map: Map, x: VirtualAddress) -> Result<u64, Fault>
     requires { Fits map mem.now }
     ensures { bits_as result ≡ read_bytes (view_by status map mem.now) Access.Read 8 x }
 {
     match lookup::look_whole(mem, status, map, x, 8, Access::Read)? {
         Some(r) => Ok(double_at(mem, r.0 as usize)),
-        None => read_words(mem, status, map, x),
+        None => Ok(read_words(mem, status, map, x)?),
     }
 }
 

@@ -95,7 +95,8 @@ pub fn near(mem: &[u8], status: u32, map: Map, x: VirtualAddress, start: Start) 
     Some(fields_in(mem, r))
 }
 
-// The six bytes of an operand of the command.
+// The six bytes of an operand of the command. `Ok(..?)` makes the rare call's answer anew, so that the
+// other one stays in registers.
 pub fn operand_fields(
     mem: &[u8],
     status: u32,
@@ -108,6 +109,6 @@ pub fn operand_fields(
 {
     match near(mem, status, map, x, start) {
         Some(k) => Ok(k),
-        None => fields_anew(mem, status, map, x),
+        None => Ok(fields_anew(mem, status, map, x)?),
     }
 }

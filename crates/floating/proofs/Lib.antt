@@ -1,3 +1,4 @@
+pub mod Lengths
 pub mod Remaining
 pub mod Taking
 pub mod Laws

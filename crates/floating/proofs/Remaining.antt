@@ -1,14 +1,16 @@
 -- Operands from some place on: each role that is left takes one operand, and the operands that are
 -- left give what all of them give.
-use Rattle.std.proofs.Common.{◌≡◌, ℕ, suc, ◌+◌, ◌-◌, ◌/◌, ◌<◌, ◌≤◌, ◌∷◌, add-one, arith}
+use Rattle.std.proofs.Common.{◌≡◌, refl, ℕ, suc, ◌+◌, ◌-◌, ◌/◌, ◌<◌, ◌≤◌, ◌∷◌, add-one, arith}
 use Rattle.machine.specs.declared.Alarm.{Alarm}
 use Rattle.machine.specs.declared.Kind.{Kind}
 use Rattle.machine.specs.declared.Role.{Role}
+use Rattle.machine.specs.declared.Target.TheVariants.{Nowhere}
+use Rattle.machine.specs.State.{Registers}
 use Rattle.machine.specs.Alarms.{OrAlarm, got, alarm}
 use Rattle.machine.specs.Map.{View}
 use Rattle.machine.specs.Operands.{Operand, Taken, Operands, with_taken}
-use Rattle.machine.specs.FloatCode.{float_operand_at, float_taken_by, float_operands_from}
-use Rattle.rules.specs.Rules.{role_in, roles_from}
+use Rattle.machine.specs.FloatCode.{float_operand_at, float_taken_by, float_operands_from, float_operands_of}
+use Rattle.rules.specs.Rules.{count_in, role_in, roles_from, roles_in}
 
 -- from operand `place` of those below `end` on, after those that gave o, the operands that are left
 -- give what all of them give
@@ -16,6 +18,11 @@ pub record Left (v : View) (kind : Kind) (place end rules : ℕ) (o : Operands) 
   pub left : ℕ
   pub near : place + left ≡ end
   pub same : float_operands_from v place kind (roles_from left rules) o ≡ whole
+
+pub all_left : (v : View) (kind : Kind) (rules end : ℕ) (r : Registers) → end ≡ count_in rules + 1
+    → Left v kind 1 end rules (record { first = 0; second = 0; target = Nowhere; registers = r })
+    (float_operands_of v kind (roles_in rules) r)
+all_left v kind rules end r e = record { left = count_in rules; near = omega (arith, e); same = refl }
 
 module _ (v : View) (kind : Kind) (place end rules : ℕ) (o : Operands) (whole : OrAlarm Operands)
     (l : Left v kind place end rules o whole) where

@@ -138,14 +138,15 @@ fn target_for(role: Role, t: Target) -> Target
     Target::Nowhere
 }
 
-// The value of a kind at an address.
+// The value of a kind at an address. `Ok(..?)` here and in `take` makes the answer of a call anew, so
+// that the others stay in registers.
 fn read(mem: &[u8], status: u32, map: Map, kind: Kind, a: VirtualAddress) -> Result<u64, Fault>
     requires { Fits map mem.now }
     ensures { bits_as result ≡ read_bytes (view_by status map mem.now) Read (kind_length kind) a }
 {
     match kind {
         Kind::F => Ok(wide(reads::read(mem, status, map, a, Size::W)?)),
-        Kind::D => doubles::read(mem, status, map, a),
+        Kind::D => Ok(doubles::read(mem, status, map, a)?),
     }
 }
 
@@ -201,7 +202,7 @@ fn take(
             bits: bits_for(role, in_register(regs, kind, x)),
             target: target_for(role, Target::Register(x)),
         }),
-        Location::Memory(a) => take_memory(mem, status, map, kind, role, a),
+        Location::Memory(a) => Ok(take_memory(mem, status, map, kind, role, a)?),
     }
 }
 
@@ -233,8 +234,8 @@ fn take_all(
         target: Target::Nowhere,
     };
     let mut rest = rules;
-    for place in 1..rules::count_in(rules) + 1 {
-        let role = rules::role_in(rest);
+    for place in 1..rules::count_in(rules.number) + 1 {
+        let role = rules::role_in(rest.number);
         let location = operand(mem, regs, status, map, start, kind, place)?;
         let t = take(mem, regs, status, map, kind, role, place, location)?;
         taken = Operands {
@@ -356,8 +357,12 @@ pub fn command(
         ≡ end_in status map mem.old (λ v. float_command b v regs.old) }
 {
     let rules = rules::float_rules_of(table, b);
-    let kind = rules::kind_in(rules);
-    let operands = take_all(mem, regs, status, map, start, kind, rules)?;
+    let kind = rules::kind_in(rules.number);
+    // A match, since `?` would take the operands through memory.
+    let operands = match take_all(mem, regs, status, map, start, kind, rules) {
+        Ok(operands) => operands,
+        Err(fault) => return Err(fault),
+    };
     match action_of(b, kind, operands.first, operands.second)? {
         Action::Give(x) => put(mem, regs, status, map, kind, x, operands.target),
         Action::Flags(f) => Ok(Out::Done(results::with_flags(status, f))),

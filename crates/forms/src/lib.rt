@@ -82,7 +82,7 @@ pub fn can_step(x: u32, y: u32, z: u32) -> bool
 }
 
 // The operand of L bytes that the fields name, over registers with R15 past them; form rules are
-// tried first.
+// tried first. `Ok(..?)` makes the answer of `behind` anew, so that the others stay in registers.
 #[inline(always)]
 pub fn by_form(
     mem: &[u8],
@@ -111,10 +111,13 @@ pub fn by_form(
             let a = words::plus(words::plus(z, rx), scaled(ry, length));
             Ok(Location::Memory(VirtualAddress(a)))
         }
-        5 if y == 0 => behind(mem, status, map, VirtualAddress(words::plus(z, rx)), 0),
+        5 if y == 0 => {
+            let a = VirtualAddress(words::plus(z, rx));
+            Ok(behind(mem, status, map, a, 0)?)
+        }
         6 => {
             let a = VirtualAddress(words::plus(z, rx));
-            behind(mem, status, map, a, scaled(ry, length))
+            Ok(behind(mem, status, map, a, scaled(ry, length))?)
         }
         7 if can_step(x, y, z) => {
             let a = words::minus(rx, length);

@@ -49,6 +49,7 @@ pub fn unpack(b: [u8; STATE_BYTES]) -> Desk
 }
 
 // The 90 bytes of a desk.
+#[inline(always)]
 pub fn pack(d: Desk) -> [u8; STATE_BYTES]
     ensures { result ≡ packed d }
 {
@@ -61,7 +62,8 @@ pub fn pack(d: Desk) -> [u8; STATE_BYTES]
         mark_word(d.mark),
     ];
     let mut b = [0; STATE_BYTES];
-    words::put_words(&mut b, 0, &d.registers);
+    let registers = d.registers;
+    words::put_words(&mut b, 0, &registers);
     words::put_words(&mut b, 64, &rest);
     b[88..].copy_from_slice(&d.pending.to_be_bytes());
     b

@@ -1,6 +1,6 @@
 -- What an answer of `look` says of the view.
 use Prim.Native.Nat.{ℕ, ◌+◌, ◌-◌, ◌%◌, ◌≤◌, ◌<◌}
-use mathlib.Core.Path.{◌≡◌, sym, ◌∙◌}
+use mathlib.Core.Path.{◌≡◌, sym, ap, ◌∙◌}
 use native.Mathlib.Omega.{arith}
 use lib.ListN.{length}
 use Rattle.machine.specs.declared.RealAddress.{RealAddress}
@@ -10,7 +10,7 @@ use Rattle.machine.specs.declared.Access.{Access}
 use Rattle.machine.specs.Words.{Memory, wrap}
 use Rattle.machine.specs.Alarms.{got, alarm}
 use Rattle.machine.specs.Map.{found_at, view_by}
-use Rattle.machine.proofs.Pages.{found_inside, Finds, found_page}
+use Rattle.machine.proofs.Pages.{view_names, Alarms, found_inside, Finds, found_page}
 use Rattle.lookup.specs.Answers.{Fits, lookup_as}
 use Rattle.std.specs.Prelude.{Result, Ok, Err}
 use Rattle.machine.specs.declared.Fault.{Fault}
@@ -34,6 +34,12 @@ module _ {s : ℕ} {map : Map} {m : Memory} {x : VirtualAddress} {w : Access} {q
   pub look_found : {a : RealAddress} → q ≡ Ok a → lookup_as m q ≡ view_by s map m x w → Fits map m
       → x.0 < 0x1_0000_0000 → Finds s map m x w a
   look_found {a} e h fits small = record { small = small; whole = fits.whole; hit = look_hit s map m x w q a e h }
+
+  pub look_alarm : {f : Fault} → q ≡ Err f → lookup_as m q ≡ view_by s map m x w → x.0 < 0x1_0000_0000
+      → Alarms s map m x w f.alarm
+  look_alarm {f} e h small =
+      let miss = look_miss s map m x w q f e h in
+      record { small = small; miss = miss ∙ ap (alarm f.alarm) (view_names s map m x w f.alarm f.argument miss) }
 
 -- ---- A byte later in the page
 

@@ -16,7 +16,7 @@ use Rattle.machine.specs.Alarms.{got, alarm}
 use Rattle.machine.specs.Map.{found_at, view_by, read_bytes, writes_from, real_writes_from, located}
 use Rattle.machine.specs.OnePage.{InOnePage, whole_value, whole_writes, Together}
 use Rattle.machine.proofs.OnePage.{one_page}
-use Rattle.machine.proofs.Pages.{Finds}
+use Rattle.machine.proofs.Pages.{Alarms, Finds}
 use Rattle.lookup.specs.Answers.{Fits, WholeOf}
 
 -- the n bytes from x on lie in one page, and the first is found at place a
@@ -62,6 +62,13 @@ module _ {s : ℕ} {map : Map} {m : Memory} {x : VirtualAddress} {w : Access} {n
     adjoin_read = one_page.value s map m x w n f.bytes ∙ ap (whole_value m n) f.hit
 
   module _ {e : Fault} (f : Stops s map m x w n e) where
+    -- the fault names the first byte's own address
+    pub stops_alarms : Alarms s map m x w e.alarm
+    stops_alarms = record {
+      small = f.bytes.address;
+      miss = f.miss ∙ ap (alarm e.alarm) (one_page.own_address s map m x w e.alarm e.argument f.miss);
+    }
+
     pub stops_read : read_bytes (view_by s map m) w n x ≡ alarm e.alarm e.argument
     stops_read = one_page.value s map m x w n f.bytes ∙ ap (whole_value m n) f.miss
 

@@ -190,9 +190,9 @@ pub fn take_all(
         target: Target::Nowhere,
     };
     let mut rest = rules;
-    for place in 1..rules::count_in(rules) + 1 {
-        let size = rules::size_in(rest);
-        let role = rules::role_in(rest);
+    for place in 1..rules::count_in(rules.number) + 1 {
+        let size = rules::size_in(rest.number);
+        let role = rules::role_in(rest.number);
         let location = operand(mem, regs, status, map, start, size, place)?;
         let t = take(mem, regs, status, map, size, role, place, location)?;
         taken = Operands {

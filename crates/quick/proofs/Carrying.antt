@@ -1,5 +1,5 @@
 -- A command whose operands are taken and whose end is known is carried out; one that is left has
--- changed R15 alone. The bytes from 10h on are commands of both modes.
+-- changed R15 alone, which is put back. The bytes from 10h on are commands of both modes.
 use Prim.Native.Nat.{ℕ, ◌%◌, ◌≤◌, ◌<◌}
 use mathlib.Core.Path.{◌≡◌, refl, ap, subst, ◌∙◌}
 use mathlib.Core.Bool.{Bool, true, false, ◌||◌, false≢true}
@@ -8,6 +8,8 @@ use mathlib.Core.Option.{none}
 use native.Mathlib.Omega.{arith}
 use borrow.Author.Tests.{ne_eqb, leb-true, leb-false}
 use lib.Dec.{leb, eqb}
+use lib.ListN.{set}
+use lib.Seq.{set-set, set-get_or}
 use Rattle.std.specs.Option.{is_some}
 use Rattle.std.proofs.Common.{Option, Some, None}
 use Rattle.machine.specs.declared.Map.{Map}
@@ -55,6 +57,10 @@ module _ (s : ℕ) (map : Map) (b : ℕ) (ks : List Rule) (r : Registers) (m : M
   flags_carried g does =
       carried s map b ks r m o taken only o.registers m (Some (with_flags s g)) (rw (← does.same (flags_of s)))
 
+pub put_back : (r q : Registers) (p : ℕ) → OnlyR15 (set r 15 p) q → set q 15 (reg r 15) ≡ r
+put_back r q p only =
+    rw (only.same, set-set (set r 15 p) 15 only.r15 (reg r 15), set-set r 15 p (reg r 15)) (set-get_or r 15 0)
+
 pub both_modes : (b s : ℕ) → 0x10 ≤ b → forbidden_of b s ≡ false
 both_modes b s h = go (user_mode s)
   where
@@ -83,7 +89,7 @@ unfolding action_of action_end
 unknown_alarms s map b ks r m e h c quiet = subst EndsQuietly (rw h at c.same) quiet
 
 -- what is carried out ends the command at R15
-carried_ends : (s : ℕ) (map : Map) (r : Registers) (m : Memory) (b : ℕ)
+pub carried_ends : (s : ℕ) (map : Map) (r : Registers) (m : Memory) (b : ℕ)
     → got b ≡ read_bytes (view_by s map m) Fetch 1 (record { 0 = reg r 15 }) → b < 256 → 0x10 ≤ b
     → (ks : List Rule) → ks ≡ known_rules (known b) → (q : Registers) → q ≡ past 1 r → (e : End)
     → Carried s map b ks q m e → EndsQuietly e → e ≡ exec_of s map r m

@@ -160,7 +160,7 @@ fn carry_out_narrow(
     ensures { CarriesOut status map b (rules_in rules.number) regs.old mem.old
         regs.new mem.new result }
 {
-    let size = rules::size_in(rules);
+    let size = rules::size_in(rules.number);
     let o = sure::take_all(mem, regs, status, map, start, size, rules)?;
     match effects::narrow_effect_of(b, o.first, o.second)? {
         NarrowEffect::Gives(v) => Some(put(mem, regs, status, map, size, v, o.goes)),
@@ -185,7 +185,7 @@ fn carry_out(
     ensures { CarriesOut status map b (rules_in rules.number) regs.old mem.old
         regs.new mem.new result }
 {
-    match rules::size_in(rules) {
+    match rules::size_in(rules.number) {
         Size::W => carry_out_words(mem, regs, status, map, start, b, rules),
         _ => {
             if b == 0x21 {

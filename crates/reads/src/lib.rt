@@ -31,7 +31,8 @@ pub fn read_bytewise(
     Ok(acc)
 }
 
-// The value of a size at an address.
+// The value of a size at an address. `Ok(..?)` makes the rare call's answer anew, so that the other one
+// stays in registers.
 #[inline(always)]
 pub fn read(mem: &[u8], status: u32, map: Map, x: VirtualAddress, size: Size) -> Result<u32, Fault>
     requires { Fits map mem.now }
@@ -40,6 +41,6 @@ pub fn read(mem: &[u8], status: u32, map: Map, x: VirtualAddress, size: Size) ->
     let n = size.length();
     match lookup::look_whole(mem, status, map, x, n, Access::Read)? {
         Some(r) => Ok(words::value_at(mem, r.0 as usize, size)),
-        None => read_bytewise(mem, status, map, x, n, Access::Read),
+        None => Ok(read_bytewise(mem, status, map, x, n, Access::Read)?),
     }
 }

@@ -79,10 +79,10 @@ pub fn float_rules_of(table: &Table, b: u32) -> Rules
 }
 
 // The operand count of a row.
-pub fn count_in(rules: Rules) -> u32
-    ensures { result ≡ count_in rules.number }
+pub fn count_in(rules: u32) -> u32
+    ensures { result ≡ count_in rules }
 {
-    rules.number / 0x1000
+    rules / 0x1000
 }
 
 // The rules without the next operand's; the count is of no account then.
@@ -96,10 +96,10 @@ pub fn rest_of(rules: Rules) -> Rules
 
 // The size in the lowest digit: the next operand's. An arm for each number, of which the compiler
 // makes a table.
-pub fn size_in(rules: Rules) -> Size
-    ensures { result ≡ size_in rules.number }
+pub fn size_in(rules: u32) -> Size
+    ensures { result ≡ size_in rules }
 {
-    match rules.number % 4 {
+    match rules % 4 {
         0 => Size::W,
         1 => Size::B,
         2 => Size::H,
@@ -108,20 +108,20 @@ pub fn size_in(rules: Rules) -> Size
 }
 
 // The kind in the lowest digit of a floating command's rules.
-pub fn kind_in(rules: Rules) -> Kind
-    ensures { result ≡ kind_in rules.number }
+pub fn kind_in(rules: u32) -> Kind
+    ensures { result ≡ kind_in rules }
 {
-    match rules.number % 4 {
+    match rules % 4 {
         2 => Kind::D,
         _ => Kind::F,
     }
 }
 
 // The role in the lowest digit: the next operand's.
-pub fn role_in(rules: Rules) -> Role
-    ensures { result ≡ role_in rules.number }
+pub fn role_in(rules: u32) -> Role
+    ensures { result ≡ role_in rules }
 {
-    match rules.number / 4 % 4 {
+    match rules / 4 % 4 {
         0 => Role::Value,
         1 => Role::Address,
         2 => Role::Destination,

@@ -7,12 +7,12 @@ ghost use Rattle.rules.specs.Rules.{table_of};
 #[derive(Clone, Copy)]
 pub struct Rules {
     pub number: u32,
-    ghost small: { number < 65536 },
+    pub ghost small: { number < 65536 },
 }
 
 // The table of operand rules: its one value.
 #[derive(Clone, Copy)]
 pub struct Table {
     pub rows: [u16; 166],
-    ghost right: { rows ≡ table_of },
+    pub ghost right: { rows ≡ table_of },
 }

@@ -1,8 +1,9 @@
 -- Operands that are surely taken, one after another: after each, the operands that are left give
 -- what all of them give.
 use Prim.Native.Nat.{ℕ, suc, ◌+◌, ◌-◌, ◌/◌, ◌<◌, ◌≤◌}
-use mathlib.Core.Path.{◌≡◌, sym, subst, ◌∙◌}
-use mathlib.Core.List.{◌∷◌}
+use mathlib.Core.Path.{◌≡◌, refl, sym, subst, ◌∙◌}
+use mathlib.Core.Bool.{false}
+use mathlib.Core.List.{List, ◌∷◌}
 use native.Mathlib.Omega.{arith}
 use lib.Seq.{set-set, set-get_or}
 use Rattle.std.specs.Prelude.{Some}
@@ -13,7 +14,8 @@ use Rattle.machine.specs.Words.{Memory, length_of}
 use Rattle.machine.specs.State.{Registers}
 use Rattle.machine.specs.Map.{view_by}
 use Rattle.machine.specs.Operands.{with_taken, operands_of}
-use Rattle.rules.specs.Rules.{count_in, size_in, role_in, rules_from, rules_in, AllOf}
+use Rattle.machine.specs.Code.{Rule}
+use Rattle.rules.specs.Rules.{count_in, size_in, role_in, rules_from, rules_in, addressed_by, AllOf, Unaddressed}
 use Rattle.operands.proofs.Remaining.{Left, all_left, none_left, next-left}
 use Rattle.sure.specs.declared.Goes.TheVariants as goes
 use Rattle.sure.specs.declared.Taken.{Taken}
@@ -22,27 +24,40 @@ use Rattle.sure.specs.Answers.{target_of, Reaches, Gives, with_operand, ReadyOf,
 
 -- ---- The rules that are left
 
--- from operand `place` of so many on, the operands that are left all have this size
-pub record Rest (size : Size) (place count rules : ℕ) : Type 0 where
-  pub holds : (n : ℕ) → place + n ≡ count + 1 → AllOf size (rules_from n rules)
+-- from operand `place` of so many on, P holds of the rules that are left
+pub record Rest (P : List Rule → Type 0) (place count rules : ℕ) : Type 0 where
+  pub holds : (n : ℕ) → place + n ≡ count + 1 → P (rules_from n rules)
 
-rest_all : (size : Size) (rules : ℕ) → AllOf size (rules_in rules) → Rest size 1 (count_in rules) rules
-rest_all size rules p = record {
-  holds = λ n q. subst (λ (k : ℕ). AllOf size (rules_from k rules)) (let h : count_in rules ≡ n = omega arith in h) p;
+pub rest_all : (P : List Rule → Type 0) (rules count : ℕ) → count ≡ count_in rules → P (rules_in rules) → Rest P 1 count rules
+rest_all P rules count e p = record {
+  holds = λ n q. subst (λ (k : ℕ). P (rules_from k rules)) (let h : count_in rules ≡ n = omega arith in h) p;
 }
 
-module _ (place count rules : ℕ) (more : place ≤ count) (size : Size) (l : Rest size place count rules) where
-  -- there is one more, and there are those behind it
-  one_ahead : AllOf size (record { size = size_in rules; role = role_in rules } ∷ rules_from (count - place) (rules / 16))
+module _ (place count rules : ℕ) (more : place ≤ count) where
+  -- where there is one more, P holds of it and those behind it
+  first : (P : List Rule → Type 0) → Rest P place count rules
+      → P (record { size = size_in rules; role = role_in rules } ∷ rules_from (count - place) (rules / 16))
   unfolding rules_from
-  one_ahead = l.holds (suc (count - place)) (omega arith)
+  first P l = l.holds (suc (count - place)) (omega arith)
 
-  next_size : size ≡ size_in rules
-  next_size = one_ahead.0
-
-  next_sizes : Rest size (place + 1) count (rules / 16)
+  next : (P : List Rule → Type 0) → ((k : Rule) (ks : List Rule) → P (k ∷ ks) → P ks) → Rest P place count rules
+      → Rest P (place + 1) count (rules / 16)
   unfolding rules_from
-  next_sizes = record { holds = λ n q. (l.holds (suc n) (omega arith)).1 }
+  next P tail l = record { holds = λ n q. tail _ _ (l.holds (suc n) (omega arith)) }
+
+  module _ (size : Size) (l : Rest (AllOf size) place count rules) where
+    pub next_size : size ≡ size_in rules
+    next_size = (first (AllOf size) l).0
+
+    pub next_sizes : Rest (AllOf size) (place + 1) count (rules / 16)
+    next_sizes = next (AllOf size) (λ k ks p. p.1) l
+
+  module _ (l : Rest Unaddressed place count rules) where
+    pub next-plain : addressed_by (role_in rules) ≡ false
+    next-plain = (first Unaddressed l).0
+
+    pub next_plains : Rest Unaddressed (place + 1) count (rules / 16)
+    next_plains = next Unaddressed (λ k ks p. p.1) l
 
 -- ---- The operands that are left
 
@@ -62,7 +77,7 @@ pub record Midway (size : Size) (s : ℕ) (map : Map) (m : Memory) (rules : ℕ)
       Left (view_by s map m) place (count_in rules) rest
       (record { first = o.first; second = o.second; target = target_of o.goes; registers = r })
       (operands_of (view_by s map m) (rules_in rules) r₀)
-  pub sizes : Rest size place (count_in rules) rest
+  pub sizes : Rest (AllOf size) place (count_in rules) rest
   pub reaches : Reaches (length_of size) s map m o.goes
 
 pub none-taken : {size : Size} {s : ℕ} {map : Map} {m : Memory} {rules : ℕ} {r : Registers}
@@ -70,7 +85,7 @@ pub none-taken : {size : Size} {s : ℕ} {map : Map} {m : Memory} {rules : ℕ} 
     → Midway size s map m rules r r 1 rules (record { first = 0; second = 0; goes = goes.Nowhere })
 none-taken {size} {rules = rules} {r = r} all = record {
   left = all_left _ rules r;
-  sizes = rest_all size rules all;
+  sizes = rest_all (AllOf size) rules (count_in rules) refl all;
   reaches = tt;
 }
 

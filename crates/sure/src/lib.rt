@@ -212,8 +212,16 @@ pub fn take_all(
 {
     let mut all = Operands::NONE;
     let mut rest = rules;
-    for place in 1..rules::count_in(rules) + 1 {
-        let taken = operand(mem, regs, status, map, start, size, rules::role_in(rest))?;
+    for place in 1..rules::count_in(rules.number) + 1 {
+        let taken = operand(
+            mem,
+            regs,
+            status,
+            map,
+            start,
+            size,
+            rules::role_in(rest.number),
+        )?;
         all = with(all, place, taken);
         rest = rules::rest_of(rest);
     }

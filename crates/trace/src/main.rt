@@ -17,9 +17,25 @@ const STDIN_FILENO: i32 = 0;
 
 const STDOUT_FILENO: i32 = 1;
 
+// The hexadecimal digits, in capitals.
+const DIGITS: [u8; 16] = *b"0123456789ABCDEF";
+
 // Standard output. What cannot be written is dropped.
 #[derive(Drop)]
 struct Output;
+
+impl Output {
+    // A word as eight hexadecimal digits, in one piece: so it is written whole or not at all.
+    fn word(&mut self, w: u32) {
+        let mut text = [0u8; 8];
+        let mut rest = w;
+        for i in (0..8).rev() {
+            text[i] = DIGITS[(rest % 16) as usize];
+            rest /= 16;
+        }
+        io::write_all(STDOUT_FILENO, &text);
+    }
+}
 
 impl Write for Output {
     fn write_str(&mut self, s: &str) -> fmt::Result {
@@ -37,18 +53,27 @@ fn covering(n: usize) -> usize
     n.next_multiple_of(512).max(512)
 }
 
+// The line of a step.
+fn print_step(out: &mut Output, step: u64, desk: Desk) {
+    let _ = write!(out, "{step} ");
+    out.word(desk.registers[15]);
+    let _ = out.write_str(" ");
+    out.word(desk.status);
+    let _ = out.write_str("\n");
+}
+
 // Steps up to a stop, at most 1,000.
 fn trace(out: &mut Output, first: Desk, mem: &mut [u8]) {
     let mut desk = first;
     for k in 1..=1000 {
         desk = desk::step(desk, mem).desk;
-        let _ = writeln!(out, "{k} {:08X} {:08X}", desk.registers[15], desk.status);
+        print_step(out, k, desk);
         if let Mark::Stopped(n) = desk.mark {
             let _ = writeln!(out, "stop {n}");
             return;
         }
     }
-    let _ = writeln!(out, "end");
+    let _ = out.write_str("end\n");
 }
 
 fn main() {

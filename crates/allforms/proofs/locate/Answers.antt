@@ -18,16 +18,16 @@ returns-in-4-clause-spot c = record {
 pub returns-in-5-clause-spot : goal.returns-in-5-clause-spot
 unfolding keeps_rules by_form
 returns-in-5-clause-spot c =
-    pointed _ _ (view_by c.args.status c.args.map c.args.mem.now) 4 (named c.args.fields) c.args.regs.now
+    (pointed _ _ (view_by c.args.status c.args.map c.args.mem.now) 4 (named c.args.fields) c.args.regs.now
     (λ place. simp (c.in-5.is, eq-eqb _ _ c.if-y-eq0.true, c.plus-in-5.ensures, add-zero))
-    c.behind.result c.behind.ensures
+    c.behind.result c.behind.ensures).0
 
 pub returns-in-6-clause-spot : goal.returns-in-6-clause-spot
 unfolding keeps_rules by_form
 returns-in-6-clause-spot c =
-    pointed _ _ (view_by c.args.status c.args.map c.args.mem.now) 4 (named c.args.fields) c.args.regs.now
+    (pointed _ _ (view_by c.args.status c.args.map c.args.mem.now) 4 (named c.args.fields) c.args.regs.now
     (λ place. simp (c.in-6.is, c.plus-in-6.ensures, c.scaled-in-6.ensures, add-mod-mod))
-    c.behind-in-6.result c.behind-in-6.ensures
+    c.behind-in-6.result c.behind-in-6.ensures).0
 
 pub returns-in-7-clause-spot : goal.returns-in-7-clause-spot
 unfolding keeps_rules by_form

@@ -2,15 +2,16 @@
 use borrow.Author.Tests.{le-leb, lt-leb}
 use Rattle.breakpoints.specs.Gathered.{with_one}
 use Rattle.breakpoints.proofs.with_one.Goals as goal
-use Rattle.breakpoints.proofs.with_one.Goals.{then-p+then-a-lt-MOST, else-p, else-p-via-then-p+else-a-lt-MOST, else-p-via-else-p}
+use Rattle.breakpoints.proofs.with_one.Goals.{else-p-via-then-p+else-a-lt-MOST, else-p-via-else-p}
 
-pub returns-clause-added : goal.returns-clause-added
+pub returns-then-a-lt-MOST : goal.returns-then-a-lt-MOST
 unfolding with_one
-returns-clause-added c =
-    elim c.if-p.branch [
-      | then-p+then-a-lt-MOST w ↦ simp (w.a-is, w.if-p.true, lt-leb 64 c.args.a.count w.if-a-lt-MOST.true)
-      | else-p w ↦ elim w.else-p.branch [
-        | else-p-via-then-p+else-a-lt-MOST w' ↦ simp (w.a-is, w'.if-p.true, le-leb 64 c.args.a.count w'.if-a-lt-MOST.false)
-        | else-p-via-else-p w' ↦ simp (w.a-is, w'.if-p.false)
-      ]
+returns-then-a-lt-MOST c = simp (c.if-p.true, lt-leb 64 c.args.a.count c.if-a-lt-MOST.true)
+
+pub returns-else-p : goal.returns-else-p
+unfolding with_one
+returns-else-p c =
+    elim c.else-p.branch [
+      | else-p-via-then-p+else-a-lt-MOST w ↦ simp (w.if-p.true, le-leb 64 c.args.a.count w.if-a-lt-MOST.false)
+      | else-p-via-else-p w ↦ simp (w.if-p.false)
     ]

@@ -2,9 +2,11 @@
 -- wrap of an address serves for the wraps of its parts.
 use Prim.Native.Nat.{◌<◌}
 use mathlib.Core.Logic.{◌≢◌}
+use mathlib.Core.Path.{◌∙◌}
 use native.Mathlib.Omega.{arith}
 use native.Mathlib.Nat.{add-zero, mod-mod, mod-add-mod, add-mod-mod}
 use borrow.Author.Tests.{eq-eqb, ne_eqb, lt-leb}
+use Rattle.std.proofs.lemmas.Result.{err_from_is_err_and}
 use Rattle.machine.specs.Operands.{keeps_rules, by_form}
 use Rattle.forms.proofs.by_form.Goals as goal
 
@@ -28,13 +30,31 @@ pub returns-in-4-clause-location : goal.returns-in-4-clause-location
 unfolding keeps_rules by_form
 returns-in-4-clause-location c = simp (c.in-4.is, c.plus-a.ensures, c.scaled.ensures, c.plus-in-4.ensures, mod-add-mod, add-mod-mod)
 
-pub returns-in-5-clause-location : goal.returns-in-5-clause-location
+pub returns-in_ok-behind-in-5-clause-location : goal.returns-in_ok-behind-in-5-clause-location
 unfolding keeps_rules by_form
-returns-in-5-clause-location c = simp (c.in-5.is, eq-eqb _ _ c.if-y-eq0-5.true, c.behind.ensures.same, c.plus-in-5.ensures, add-zero)
+returns-in_ok-behind-in-5-clause-location c =
+    simp (c.in-5.is, eq-eqb _ _ c.if-y-eq0-5.true, c.in_ok-behind-in-5.ensures.same, c.plus-in-5.ensures, add-zero)
 
-pub returns-in-6-clause-location : goal.returns-in-6-clause-location
+pub returns-in_err-behind-in-5-clause-location : goal.returns-in_err-behind-in-5-clause-location
 unfolding keeps_rules by_form
-returns-in-6-clause-location c = simp (c.in-6.is, c.behind-in-6.ensures.same, c.scaled-in-6.ensures, c.plus-in-6.ensures, add-mod-mod)
+returns-in_err-behind-in-5-clause-location c =
+    let p = err_from_is_err_and c.from_residual.result c.from_residual.ensures.1 in
+    rw (p.1, p.2)
+    (c.in_err-behind-in-5.ensures.same c.args.regs.now
+    ∙ simp (c.in-5.is, eq-eqb _ _ c.if-y-eq0-5.true, c.plus-in-5.ensures, add-zero))
+
+pub returns-in_ok-behind-in-6-clause-location : goal.returns-in_ok-behind-in-6-clause-location
+unfolding keeps_rules by_form
+returns-in_ok-behind-in-6-clause-location c =
+    simp (c.in-6.is, c.in_ok-behind-in-6.ensures.same, c.scaled-in-6.ensures, c.plus-in-6.ensures, add-mod-mod)
+
+pub returns-in_err-behind-in-6-clause-location : goal.returns-in_err-behind-in-6-clause-location
+unfolding keeps_rules by_form
+returns-in_err-behind-in-6-clause-location c =
+    let p = err_from_is_err_and c.from_residual-in_err-behind-in-6.result c.from_residual-in_err-behind-in-6.ensures.1 in
+    rw (p.1, p.2)
+    (c.in_err-behind-in-6.ensures.same c.args.regs.now
+    ∙ simp (c.in-6.is, c.scaled-in-6.ensures, c.plus-in-6.ensures, add-mod-mod))
 
 pub returns-in-7-clause-location : goal.returns-in-7-clause-location
 unfolding keeps_rules by_form

@@ -3,6 +3,7 @@ use Prim.Native.Nat.{ℕ}
 use mathlib.Core.Path.{◌≡◌, refl, sym}
 use mathlib.Core.Bool.{true, false}
 use Rattle.std.specs.Prelude.{Ok, Err}
+use Rattle.machine.specs.declared.Fault.{Fault}
 use Rattle.machine.specs.declared.Role.{Role}
 use Rattle.machine.specs.declared.Alarm.TheVariants as alarms
 use Rattle.machine.specs.declared.Target.TheVariants.{Nowhere, Register}
@@ -24,12 +25,10 @@ module _ (place x n : ℕ) where
   unfolding taken_by value_in
   reads = value_role (λ k. TakesRegister (Ok (record { number = n; target = Nowhere })) place k x n) (record { same = λ v L r e. rw e })
 
-  has-none : (k : Role) → written_to k ≡ false → read_by k ≡ false
-      → TakesRegister (Err (record { alarm = alarms.Operand; argument = place })) place k x n
+  has-none : (f : Fault) → f ≡ record { alarm = alarms.Operand; argument = place } → (k : Role) → written_to k ≡ false
+      → read_by k ≡ false → TakesRegister (Err f) place k x n
   unfolding taken_by address_in
-  has-none =
-      address_role (λ k. TakesRegister (Err (record { alarm = alarms.Operand; argument = place })) place k x n)
-      (record { same = λ v L r e. refl })
+  has-none f e = address_role (λ k. TakesRegister (Err f) place k x n) (record { same = λ v L r d. rw e })
 
 pub returns-then-writes-clause-value : goal.returns-then-writes-clause-value
 returns-then-writes-clause-value c = rw c.number.ensures (writes _ _ _ _ (sym c.if-writes.ensures))
@@ -38,4 +37,4 @@ pub returns-then-reads-clause-value : goal.returns-then-reads-clause-value
 returns-then-reads-clause-value c = reads _ _ _ _ (sym c.if-writes.ensures) (sym c.if-reads.ensures)
 
 pub returns-clause-value : goal.returns-clause-value
-returns-clause-value c = rw c.misplaced.ensures (has-none _ _ _ _ (sym c.if-writes.ensures) (sym c.if-reads.ensures))
+returns-clause-value c = has-none _ _ _ _ c.misplaced.ensures _ (sym c.if-writes.ensures) (sym c.if-reads.ensures)
