@@ -25,7 +25,7 @@ const DIGITS: [u8; 16] = *b"0123456789ABCDEF";
 struct Output;
 
 impl Output {
-    // A word as eight hexadecimal digits, in one piece: so it is written whole or not at all.
+    // A word as eight hexadecimal digits, in one piece: a full pipe takes it whole or not at all.
     fn word(&mut self, w: u32) {
         let mut text = [0u8; 8];
         let mut rest = w;
